@@ -1,0 +1,5 @@
+pub mod Ratings
+pub mod Retold
+pub mod JointNet
+pub mod Rows
+pub mod Layers

@@ -1,0 +1,5 @@
+pub mod Ratings
+pub mod Meaning
+pub mod Questions
+pub mod Legality
+pub mod Laws

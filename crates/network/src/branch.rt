@@ -1,0 +1,53 @@
+// The parts of a network, and a row of the table from which a caller's network is made.
+ghost use mathlib.Core.Path.{_≡_};
+ghost use Rattle.network.specs.Meaning.{branchOf};
+
+// Whether a branch can fail.
+#[derive(Clone, Copy, Debug, PartialEq, Eq)]
+pub enum Condition {
+    // able to fail
+    Able,
+    // failed, so absent
+    Failed,
+    // working: present and unable to fail
+    Working,
+}
+
+// A branch by its two ends, which may be the same node.
+#[derive(Clone, Copy, Debug, PartialEq, Eq)]
+pub struct Branch {
+    pub from: u32,
+    pub to: u32,
+    pub condition: Condition,
+}
+
+// A row of a caller's table: a branch and the two numbers of its rating, not yet checked.
+#[derive(Clone, Copy, Debug, PartialEq, Eq)]
+pub struct TableRow {
+    pub from: u32,
+    pub to: u32,
+    pub mantissa: u32,
+    pub exponent: u32,
+    pub condition: Condition,
+}
+
+impl TableRow {
+    // Stands in places of a table that hold no branch yet.
+    pub const BLANK: TableRow = TableRow {
+        from: 0,
+        to: 0,
+        mantissa: 0,
+        exponent: 9,
+        condition: Condition::Able,
+    };
+
+    pub fn branch(&self) -> Branch
+        ensures { λ r. ⌜ r ≡ branchOf (now (self .entry)) ⌝ }
+    {
+        Branch {
+            from: self.from,
+            to: self.to,
+            condition: self.condition,
+        }
+    }
+}
