@@ -2,4 +2,3 @@ pub mod Ratings
 pub mod Meaning
 pub mod Questions
 pub mod Legality
-pub mod Laws

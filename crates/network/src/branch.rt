@@ -1,9 +1,12 @@
 // The parts of a network, and a row of the table from which a caller's network is made.
 ghost use mathlib.Core.Path.{_≡_};
-ghost use Rattle.network.specs.Meaning.{branchOf};
+ghost use mathlib.Core.List.{[], _∷_};
+ghost use Rattle.std.specs.declared.option.Option.the-variants.{Some};
+ghost use Rattle.network.specs.Meaning.{branchOf, letter};
+use std::fmt;
 
 // Whether a branch can fail.
-#[derive(Clone, Copy, Debug, PartialEq, Eq)]
+#[derive(Clone, Copy)]
 pub enum Condition {
     // able to fail
     Able,
@@ -13,8 +16,22 @@ pub enum Condition {
     Working,
 }
 
+// The condition's letter: A, F or W.
+pub impl fmt::Display for Condition as ConditionDisplay {
+    ghost shown = { λ condition. Some (letter condition ∷ []) };
+
+    fn fmt<W: fmt::Write>(&self, f: &mut fmt::Formatter<W>) -> fmt::Result {
+        let letter = match *self {
+            Condition::Able => "A",
+            Condition::Failed => "F",
+            Condition::Working => "W",
+        };
+        write!(f, "{letter}")
+    }
+}
+
 // A branch by its two ends, which may be the same node.
-#[derive(Clone, Copy, Debug, PartialEq, Eq)]
+#[derive(Clone, Copy)]
 pub struct Branch {
     pub from: u32,
     pub to: u32,
@@ -22,7 +39,7 @@ pub struct Branch {
 }
 
 // A row of a caller's table: a branch and the two numbers of its rating, not yet checked.
-#[derive(Clone, Copy, Debug, PartialEq, Eq)]
+#[derive(Clone, Copy)]
 pub struct TableRow {
     pub from: u32,
     pub to: u32,

@@ -1,9 +1,7 @@
-// Networks of nodes and branches: what a network answers, and the networks that the engine offers.
+// Networks of nodes and branches: what every network answers, the questions asked of one, the list and the ring.
 pub mod borrowed;
 pub mod branch;
-pub mod joint;
 pub mod list;
-pub mod mark;
 pub mod questions;
 pub mod rating;
 pub mod ring;

@@ -4,7 +4,7 @@ ghost use Prim.Native.Nat.{_≤_};
 pub mod checked;
 
 // Legal by its type: the mantissa is at most 10^9, and the exponent from 9 to 18.
-#[derive(Clone, Copy, Debug, PartialEq, Eq)]
+#[derive(Clone, Copy)]
 pub struct Rating {
     pub mantissa: u32,
     pub exponent: u32,

@@ -9,11 +9,9 @@ use crate::layer::LayerDisplay;
 use crate::layer::Refusal;
 use crate::network_fault::NetworkFault;
 use crate::study_fault::StudyFault;
-use crate::study_fault::StudyFaultDebug;
-use crate::study_fault::StudyFaultPartialEq;
 use std::fmt;
 
-#[derive(Clone, Copy, Debug, PartialEq, Eq)]
+#[derive(Clone, Copy)]
 pub enum DeckFault {
     // a question of a study or of a network was answered no
     Study(StudyFault),
@@ -77,7 +75,7 @@ impl DeckFault {
 }
 
 // A fault with its line; line 0 where no line is at fault.
-#[derive(Clone, Copy, Debug, PartialEq, Eq)]
+#[derive(Clone, Copy)]
 pub struct DeckRefusal {
     pub fault: DeckFault,
     pub line: u32,
@@ -93,7 +91,10 @@ pub impl fmt::Display for DeckRefusal as DeckRefusalDisplay {
         let layer = told.layer;
         let place = told.place;
         let line = self.line;
-        write!(f, "DECK REFUSED {number} LAYER {layer} PLACE {place} LINE {line}")
+        write!(
+            f,
+            "DECK REFUSED {number} LAYER {layer} PLACE {place} LINE {line}"
+        )
     }
 }
 

@@ -4,7 +4,7 @@ ghost use Rattle.refusals.specs.Refusals.{networkRefusal};
 use crate::layer::Layer;
 use crate::layer::Refusal;
 
-#[derive(Clone, Copy, Debug, PartialEq, Eq)]
+#[derive(Clone, Copy)]
 pub enum NetworkFault {
     // not 2 to 32 nodes
     NodeCount,

@@ -5,10 +5,8 @@ ghost use Rattle.refusals.specs.declared.study_fault.StudyFault.the-variants.{
 use crate::layer::Layer;
 use crate::layer::Refusal;
 use crate::network_fault::NetworkFault;
-use crate::network_fault::NetworkFaultDebug;
-use crate::network_fault::NetworkFaultPartialEq;
 
-#[derive(Clone, Copy, Debug, PartialEq, Eq)]
+#[derive(Clone, Copy)]
 pub enum StudyFault {
     // the network below was refused
     Network(NetworkFault),

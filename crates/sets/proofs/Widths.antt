@@ -59,6 +59,7 @@ meet-is k a b s t = elim (cases-bool (any k both)) [
   where
     both : ℕ → Bool
     both v = has a v && has b v
+
     none : any k both ≡ false → (v : ℕ) → v < k → both v ≡ false
     none o v l = refuted (λ t. clash o (decides-any both k .1 (v, l, t)))
 
@@ -94,3 +95,14 @@ module _ (n : ℕ) (f : ℕ → Bool) (S : ℕ) (member : (v : ℕ) → v < n �
       let low : m < n = below-mask n S m t (p .0) in
       let q : m ≡ least n f = least-unique n f m (record { within = omega arith; passes = λ _. sym (member m low) ∙ p .0; before = λ v l. sym (member v (omega arith)) ∙ p .1 v l }) in
       ap Some q ∙ sym (cond-true (ltb (least n f) n) _ _ (lt-ltb (least n f) n (omega arith)))
+
+-- the same of a set of k bits
+pub lowest-empty : (k S : ℕ) → S ≡ 0 → None ≡ lowest k (has S)
+lowest-empty k S z = lowest-none k (has S) S (λ v _. refl) z
+
+pub lowest-zeros : (k S : ℕ) → S < 2 ^ k → (S ≡ 0 → ⊥) → Some (trailingZeros k S) ≡ lowest k (has S)
+lowest-zeros k S s z = lowest-some k (has S) S (λ v _. refl) k s s z
+
+-- a number past the width is no member
+pub contains-past : (k S v : ℕ) → S < 2 ^ k → k ≤ v → ltb v k ≡ has S v
+contains-past k S v s l = le-ltb v k l ∙ sym (within-mask k S v s l)

@@ -1,10 +1,9 @@
-use mathlib.Core.Path.{refl}
-use Rattle.sets.specs.Masks.{has}
-use Rattle.sets.proofs.Widths.{lowest-none, lowest-some}
+use borrow.Author.Needs.{needs}
+use Rattle.sets.proofs.Widths.{lowest-empty, lowest-zeros}
 use Rattle.sets.proofs.branch_set.lowest.Needs as need
 
 pub returns-then-set-eq0 : need.returns-then-set-eq0
-returns-then-set-eq0 c = lowest-none 64 (has (c .args .set)) (c .args .set) (λ v l. refl) (c .if-set-eq0 .taken)
+returns-then-set-eq0 c = search (needs, lowest-empty)
 
 pub returns-else-set-eq0 : need.returns-else-set-eq0
-returns-else-set-eq0 c = lowest-some 64 (has (c .args .set)) (c .args .set) (λ v l. refl) 64 (c .fits .set .fits) (c .fits .set .fits) (c .if-set-eq0 .left)
+returns-else-set-eq0 c = search (needs, lowest-zeros)

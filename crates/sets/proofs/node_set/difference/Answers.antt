@@ -1,5 +1,6 @@
+use borrow.Author.Needs.{needs}
 use Rattle.sets.proofs.Collected.{and-not}
 use Rattle.sets.proofs.node_set.difference.Needs as need
 
 pub returns : need.returns
-returns c = and-not 32 (c .args .a) (c .args .b) (c .fits .a .fits) (c .fits .b .fits)
+returns c = search (needs, and-not)

@@ -1,0 +1,3 @@
+pub mod Retold
+pub mod JointNet
+pub mod Layers
