@@ -1,11 +1,13 @@
 -- What networks mean.
 use mathlib.Core.Path.{_≡_}
 use mathlib.Core.Bool.{cond}
-use mathlib.Core.List.{List, [], map}
+use mathlib.Core.List.{List, [], _∷_, _++_, map}
 use Prim.Native.Nat.{ℕ, _+_, _≤_, _<_}
+use lib.Chars.{codes}
 use lib.Dec.{eqb}
 use lib.ListN.{length, replicate}
 use Rattle.std.specs.Iters.{counting}
+use Rattle.std.specs.Written.{decimal}
 use Rattle.std.specs.shelf.Lists.{All}
 use Rattle.network.specs.declared.branch.Branch.{Branch}
 use Rattle.network.specs.declared.branch.TableRow.{TableRow}
@@ -19,6 +21,10 @@ abbrev pub letter : Condition → ℕ
 letter Able = 65
 letter Failed = 70
 letter Working = 87
+
+-- a branch in words: end end c, with c the letter of the condition
+abbrev pub branchText : Branch → List ℕ
+branchText b = decimal (b .from) ++ (codes " " ++ (decimal (b .to) ++ (codes " " ++ (letter (b .condition) ∷ []))))
 
 -- a network: its node count, and its branches by number
 pub record Net : Type 0 where

@@ -2,7 +2,10 @@
 use mathlib.Core.Bool.{Bool, cond, _&&_}
 use Prim.Native.Nat.{ℕ, _≤_, min, max}
 use native.Mathlib.Omega.{arith}
+use mathlib.Core.List.{List, _++_}
+use lib.Chars.{codes}
 use lib.Dec.{leb}
+use Rattle.std.specs.Written.{decimal}
 use Rattle.std.specs.declared.option.Option.{Option}
 use Rattle.std.specs.declared.option.Option.the-variants.{Some, None}
 use Rattle.network.specs.declared.rating.Rating.{Rating}
@@ -24,3 +27,7 @@ ratingFrom m e = record {
 -- the rating of two numbers that fit
 abbrev pub checkedRating : ℕ → ℕ → Option Rating
 checkedRating m e = cond (ratingFits m e) (Some (ratingFrom m e)) None
+
+-- a rating in words: m e
+abbrev pub ratingText : Rating → List ℕ
+ratingText r = decimal (r .mantissa) ++ (codes " " ++ decimal (r .exponent))

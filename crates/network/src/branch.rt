@@ -2,7 +2,7 @@
 ghost use mathlib.Core.Path.{_≡_};
 ghost use mathlib.Core.List.{[], _∷_};
 ghost use Rattle.std.specs.declared.option.Option.the-variants.{Some};
-ghost use Rattle.network.specs.Meaning.{branchOf, letter};
+ghost use Rattle.network.specs.Meaning.{branchOf, letter, branchText};
 use std::fmt;
 
 // Whether a branch can fail.
@@ -36,6 +36,18 @@ pub struct Branch {
     pub from: u32,
     pub to: u32,
     pub condition: Condition,
+}
+
+// Both ends and the letter of the condition, as `0 1 A`.
+pub impl fmt::Display for Branch as BranchDisplay {
+    ghost shown = { λ branch. Some (branchText branch) };
+
+    fn fmt<W: fmt::Write>(&self, f: &mut fmt::Formatter<W>) -> fmt::Result {
+        let from = self.from;
+        let to = self.to;
+        let condition = self.condition;
+        write!(f, "{from} {to} {condition}")
+    }
 }
 
 // A row of a caller's table: a branch and the two numbers of its rating, not yet checked.

@@ -1,0 +1,2 @@
+// What the programs print, as text whose bytes the contracts give.
+pub mod network_text;
