@@ -1,0 +1,5 @@
+pub mod Words
+pub mod Cards
+pub mod Decks
+pub mod Doorways
+pub mod Drafts
