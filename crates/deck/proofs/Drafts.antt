@@ -6,11 +6,15 @@ use native.Mathlib.Omega.{arith}
 use lib.ListN.{length, take, set, getD, length-set}
 use Rattle.std.proofs.shelf.Lists.{take-more-set, length-push, getD-take, length-take-le}
 use Rattle.std.proofs.shelf.Ways.{tells}
-use Rattle.network.specs.Questions.{countAsked}
+use denote.Ref.{RefT}
+use Rattle.network.specs.Questions.{Answer, countAsked}
+use Rattle.network.specs.declared.branch.Condition.the-variants.{Failed, Working}
 use Rattle.network.specs.declared.branch.TableRow.{TableRow}
 use Rattle.network.specs.declared.branch.Condition.{Condition}
 use Rattle.deck.specs.Decks.{Entry, branchIs, markIs, marked, withCondition, branchesIn}
-use Rattle.deck.specs.Drafts.{Holds, Next}
+use Rattle.deck.specs.Drafts.{Holds, Next, Takes, TakesMark, keywordOf, lineOf, numbersOf, tailWords}
+use Rattle.deck.specs.declared.card.Card.{Card}
+use Rattle.deck.specs.declared.card.Card.the-variants as cases
 use Rattle.std.specs.declared.result.Result.{Result}
 use Rattle.std.specs.declared.result.Result.the-variants.{Ok, Err}
 use Rattle.refusals.specs.declared.deck_fault.DeckFault.{DeckFault}
@@ -60,3 +64,12 @@ next-ok es o e d h p = rw p (refl, h)
 
 pub room-left : (k : ℕ) (u : Unit {0}) → Ok u ≡ countAsked (k + 1) → k < 64
 room-left k u e = grind (arith, tells)
+
+-- FAILED and WORKING cards are marks
+pub failed-put : (before after : Draft) (found : Card) (line : ℕ) (numbers : RefT (List ℕ)) (r : Answer DeckFault) → found ≡ cases.Failed line numbers →
+    TakesMark before Failed line (tailWords (numbers .now)) r after → Takes before (keywordOf found) (lineOf found) (tailWords (numbersOf found)) r after
+failed-put before after found line numbers r e h = rw e h
+
+pub working-put : (before after : Draft) (found : Card) (line : ℕ) (numbers : RefT (List ℕ)) (r : Answer DeckFault) → found ≡ cases.Working line numbers →
+    TakesMark before Working line (tailWords (numbers .now)) r after → Takes before (keywordOf found) (lineOf found) (tailWords (numbersOf found)) r after
+working-put before after found line numbers r e h = rw e h
