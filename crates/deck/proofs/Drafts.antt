@@ -41,7 +41,7 @@ marked-set k c [] (suc n) x l m = absurd (omega arith)
 marked-set zero c (b ∷ bs) (suc n) x l m = refl
 marked-set (suc k) c (b ∷ bs) (suc n) x l m = ap (λ t. b ∷ t) (marked-set k c bs n x (omega arith) (omega arith))
 
-length-marked : (k : ℕ) (c : Condition) (bs : List TableRow) → length (marked k c bs) ≡ length bs
+pub length-marked : (k : ℕ) (c : Condition) (bs : List TableRow) → length (marked k c bs) ≡ length bs
 length-marked k c [] = refl
 length-marked zero c (b ∷ bs) = refl
 length-marked (suc k) c (b ∷ bs) = ap suc (length-marked k c bs)

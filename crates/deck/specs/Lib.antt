@@ -2,4 +2,5 @@ pub mod Words
 pub mod Cards
 pub mod Decks
 pub mod Doorways
+pub mod Laws
 pub mod Drafts
