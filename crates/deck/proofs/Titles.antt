@@ -45,7 +45,7 @@ first-of sep (c ∷ cs) =
     ⊎-elim
     (λ e. (0, record { within = omega arith; before = λ j l. absurd (omega arith); found = λ l. eqb-true c sep e }))
     (λ e. let rest = first-of sep cs in
-        (suc (rest .0), record { within = omega (arith, rest .1 .within); before = before-more c cs (rest .0) sep (eqb-false c sep e) (rest .1); found = λ l. rest .1 .found (omega arith) }))
+    (suc (rest .0), record { within = omega (arith, rest .1 .within); before = before-more c cs (rest .0) sep (eqb-false c sep e) (rest .1); found = λ l. rest .1 .found (omega arith) }))
     (cases-bool (eqb c sep))
 
 same-is : (xs ys : List ℕ) → same xs ys ≡ true → xs ≡ ys

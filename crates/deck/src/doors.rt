@@ -24,7 +24,12 @@ fn door_of(line: &[u8]) -> Option<u32>
     ensures { λ r. ⌜ r ≡ doorOn (cardOn (words (now (line .entry)))) ⌝ }
 {
     match card_of(line, 0) {
-        Ok(Card::Door { line: _, numbers: words }) => {
+        Ok(
+            Card::Door {
+                line: _,
+                numbers: words,
+            },
+        ) => {
             let [door] = numbers::<1>(words)?;
             Some(door)
         }

@@ -11,5 +11,5 @@ returns g c =
     let net = g .N·Network .net (c .args .network .now) in
     made-more _ _ (string-bytes (c .args .text .now)) (headline (net .nodes) (c .args .head) (length (net .branches))) _ _
     (c .in-Continue-write-headline .ensures tt
-     ∙ ap₂ (λ n b. string-bytes (c .args .text .now) ++ headline n (c .args .head) b) (c .nodes .ensures) (c .branches .ensures))
+    ∙ ap₂ (λ n b. string-bytes (c .args .text .now) ++ headline n (c .args .head) b) (c .nodes .ensures) (c .branches .ensures))
     (c .write-branches .ensures)
