@@ -21,6 +21,7 @@ use Rattle.deck.specs.Cards.{Reading, cardOn, cards}
 use Rattle.deck.specs.Decks.{Entry, cardAfter, readCards, refused, endsLine, rank, lastSection, ended}
 use Rattle.deck.specs.Drafts.{Holds, Next, TakesLine, ReadTo}
 use Rattle.deck.specs.declared.draft.Draft.{Draft}
+use Rattle.deck.proofs.Steps.{answer}
 use Rattle.deck.proofs.Pieces.{First, first-line}
 
 -- the draft d holds the entries of the lines before rest
@@ -42,10 +43,6 @@ pub record This (rest this : List ℕ) (k : ℕ) : Type 0 where
   pub some : 0 < length rest
   pub first : First 10 rest k
   pub is : this ≡ take k rest
-
-answer : List Entry → List Reading → ℕ → Result Entry DeckFault → Result (List Entry) DeckRefusal
-answer es ls n (Ok e) = readCards (e ∷ es) ls
-answer es ls n (Err f) = Err (refused f n)
 
 module _ (bytes rest this : List ℕ) (line k : ℕ) (d : Draft) (now : Between bytes rest line d) (t : This rest this k) where
   pub within : k < length rest
