@@ -243,7 +243,7 @@ first-row (row ∷ more) rest n h s some room =
 first-card : (n h : ℕ) → 2 ≤ n → n ≤ 32 → h < n → cardAfter [] (shown (nodesCard n h)) ≡ Ok (nodesAre n h)
 first-card n h least most head = card-passes [] nodes (n ∷ h ∷ []) refl (ap toDeck (plan-asked n h least most head))
 
-shown-parts : (plan : Plan) → map shown (planCards plan) ≡ shown (nodesCard (plan .nodes) (plan .head)) ∷ (map shown (map branchCard (plan .rows)) ++ (map shown (map markCard (plan .marks)) ++ map shown (map doorCard (plan .doors))))
+pub shown-parts : (plan : Plan) → map shown (planCards plan) ≡ shown (nodesCard (plan .nodes) (plan .head)) ∷ (map shown (map branchCard (plan .rows)) ++ (map shown (map markCard (plan .marks)) ++ map shown (map doorCard (plan .doors))))
 shown-parts plan = ap (λ cs. shown (nodesCard (plan .nodes) (plan .head)) ∷ cs)
     (map-append shown (map branchCard (plan .rows)) _ ∙ ap (λ cs. map shown (map branchCard (plan .rows)) ++ cs) (map-append shown (map markCard (plan .marks)) _))
 
