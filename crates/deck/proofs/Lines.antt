@@ -18,8 +18,8 @@ use Rattle.refusals.specs.declared.deck_fault.DeckRefusal.{DeckRefusal}
 use Rattle.network.specs.Questions.{asked}
 use Rattle.deck.specs.Words.{lines, words}
 use Rattle.deck.specs.Cards.{Reading, cardOn, cards}
-use Rattle.deck.specs.Decks.{Entry, cardAfter, readCards, refused, endsLine, rank, lastSection, ended}
-use Rattle.deck.specs.Drafts.{Holds, Next, TakesLine, ReadTo}
+use Rattle.deck.specs.Decks.{Entry, cardAfter, readCards, refused, endsLine, lastTurn, ended}
+use Rattle.deck.specs.Drafts.{rank, Holds, Next, TakesLine, ReadTo}
 use Rattle.deck.specs.declared.draft.Draft.{Draft}
 use Rattle.deck.proofs.Steps.{answer}
 use Rattle.deck.proofs.Pieces.{First, first-line}
@@ -108,8 +108,8 @@ at-end bytes [] line d now e = now .left
 at-end bytes (c ∷ cs) line d now e = absurd (omega arith)
 
 module _ (bytes rest : List ℕ) (line : ℕ) (d : Draft) (now : Between bytes rest line d) (none : length rest ≡ 0) (r : Result (Unit {0}) DeckFault) (is : r ≡ asked (eqb (rank (d .section)) 4) Turn) where
-  same : r ≡ asked (eqb (rank (lastSection (now .es))) 4) Turn
-  same = is ∙ ap (λ s. asked (eqb (rank s) 4) Turn) (now .holds .section)
+  same : r ≡ asked (eqb (lastTurn (now .es)) 4) Turn
+  same = is ∙ ap (λ s. asked (eqb s 4) Turn) (now .holds .section)
 
   pub done-ok : Ok tt ≡ atLine line r → ReadTo (readCards [] (cards bytes)) (Ok d)
   done-ok e = rw (at-end bytes rest line d now none) (finish-ok _ (now .es) _ d (now .holds) (e ∙ (λ i. atLine (now .at i) (same i))))

@@ -27,10 +27,8 @@ use Rattle.network.specs.declared.branch.Condition.{Condition}
 use Rattle.network.specs.declared.branch.Condition.the-variants.{Able, Failed, Working}
 use Rattle.deck.specs.Words.{words, lines, numberOf, numbersIn, prefixed}
 use Rattle.deck.specs.Cards.{Keyword, nodes, branch, failed, working, door, numbersFor, keywordFor, Reading, unknown, card, cardBy, cardOn, cards}
-use Rattle.deck.specs.Decks.{Entry, nodesAre, branchIs, markIs, doorIs, rowOf, entryOf, entryAsked, nodesIn, branchesIn, marked, lastSection, sectionFor, rank, follows, toStudy, toDeck, planAsked, counted, cardAfter, readCards, readBytes, readIf, bytesAsked, refused}
+use Rattle.deck.specs.Decks.{Entry, nodesAre, branchIs, markIs, doorIs, rowOf, entryOf, entryAsked, nodesIn, branchesIn, marked, lastTurn, turnOf, follows, toStudy, toDeck, planAsked, counted, cardAfter, readCards, readBytes, readIf, bytesAsked, refused}
 use Rattle.deck.specs.Laws.{Plan, SoundRow, SoundMark, Sound, nodesCard, branchCard, markCard, doorCard, planCards, written, Describes}
-use Rattle.deck.specs.declared.draft.Section.{Section}
-use Rattle.deck.specs.declared.draft.Section.the-variants as sections
 use Rattle.deck.proofs.Drafts.{length-marked}
 use Rattle.deck.proofs.Steps.{answer, from-turn, from-entered, from-ended}
 use Rattle.deck.proofs.Texts.{Writable, shown, cards-text}
@@ -100,15 +98,15 @@ record Accepted (es : List Entry) (c : Reading) (cs : List Reading) (fs : List E
   k : Keyword
   ns : List ℕ
   is : c ≡ card k (Some ns)
-  turn : follows (lastSection es) (sectionFor k) ≡ true
+  turn : follows (lastTurn es) (turnOf k) ≡ true
   asks : entryAsked es (entryOf k ns) ≡ Ok tt
   next : readCards (entryOf k ns ∷ es) cs ≡ Ok fs
 
 accepted-card : (es : List Entry) (c : Reading) (cs : List Reading) (fs : List Entry) (e : Entry) → cardAfter es c ≡ Ok e → readCards (e ∷ es) cs ≡ Ok fs → Accepted es c cs fs
 accepted-card es unknown cs fs e p h = let z : _≡_ {A = ℕ} 0 1 = cc in absurd (omega arith)
-accepted-card es (card k None) cs fs e p h = let q : Err Numbers ≡ Ok e = from-turn (follows (lastSection es) (sectionFor k)) (Err Numbers) Turn e p .1 in let z : _≡_ {A = ℕ} 0 1 = cc in absurd (omega arith)
+accepted-card es (card k None) cs fs e p h = let q : Err Numbers ≡ Ok e = from-turn (follows (lastTurn es) (turnOf k)) (Err Numbers) Turn e p .1 in let z : _≡_ {A = ℕ} 0 1 = cc in absurd (omega arith)
 accepted-card es (card k (Some ns)) cs fs e p h =
-    let t = from-turn (follows (lastSection es) (sectionFor k)) (counted es (entryOf k) (Some ns)) _ e p in
+    let t = from-turn (follows (lastTurn es) (turnOf k)) (counted es (entryOf k) (Some ns)) _ e p in
     let q = from-entered (entryOf k ns) (entryAsked es (entryOf k ns)) e (t .1) in
     record { k = k; ns = ns; is = refl; turn = t .0; asks = q .1; next = ap (λ x. readCards (x ∷ es) cs) (q .0) ∙ h }
 
@@ -190,18 +188,18 @@ door-left ns cs w left =
     let d = door-shown ns w in
     record { doors = getD ns 0 0 ∷ left .doors; fit = (d .1, left .fit); is = (λ i. d .0 i ∷ left .is i) }
 
-not-next : (s t : Section) (es : List Entry) → lastSection es ≡ s → follows s t ≡ false → follows (lastSection es) t ≡ true → ⊥
+not-next : (s t : ℕ) (es : List Entry) → lastTurn es ≡ s → follows s t ≡ false → follows (lastTurn es) t ≡ true → ⊥
 not-next s t es last never turn = true≢false (sym turn ∙ ap (λ x. follows x t) last ∙ never)
 
-doors-case : (cs : List Reading) → ((es fs : List Entry) → lastSection es ≡ sections.Doors → All Proper cs → readCards es cs ≡ Ok fs → DoorsLeft cs) →
-    (es fs : List Entry) → lastSection es ≡ sections.Doors → All Proper cs → (k : Keyword) (ns : List ℕ) → Writable (k, ns) → follows (lastSection es) (sectionFor k) ≡ true → readCards (entryOf k ns ∷ es) cs ≡ Ok fs → DoorsLeft (card k (Some ns) ∷ cs)
-doors-case cs rest es fs last proper nodes ns w turn h = absurd (not-next sections.Doors sections.Nodes es last refl turn)
-doors-case cs rest es fs last proper branch ns w turn h = absurd (not-next sections.Doors sections.Branches es last refl turn)
-doors-case cs rest es fs last proper failed ns w turn h = absurd (not-next sections.Doors sections.Marks es last refl turn)
-doors-case cs rest es fs last proper working ns w turn h = absurd (not-next sections.Doors sections.Marks es last refl turn)
+doors-case : (cs : List Reading) → ((es fs : List Entry) → lastTurn es ≡ 4 → All Proper cs → readCards es cs ≡ Ok fs → DoorsLeft cs) →
+    (es fs : List Entry) → lastTurn es ≡ 4 → All Proper cs → (k : Keyword) (ns : List ℕ) → Writable (k, ns) → follows (lastTurn es) (turnOf k) ≡ true → readCards (entryOf k ns ∷ es) cs ≡ Ok fs → DoorsLeft (card k (Some ns) ∷ cs)
+doors-case cs rest es fs last proper nodes ns w turn h = absurd (not-next 4 1 es last refl turn)
+doors-case cs rest es fs last proper branch ns w turn h = absurd (not-next 4 2 es last refl turn)
+doors-case cs rest es fs last proper failed ns w turn h = absurd (not-next 4 3 es last refl turn)
+doors-case cs rest es fs last proper working ns w turn h = absurd (not-next 4 3 es last refl turn)
 doors-case cs rest es fs last proper door ns w turn h = door-left ns cs w (rest (doorIs (getD ns 0 0) ∷ es) fs refl proper h)
 
-doors-only : (cs : List Reading) (es fs : List Entry) → lastSection es ≡ sections.Doors → All Proper cs → readCards es cs ≡ Ok fs → DoorsLeft cs
+doors-only : (cs : List Reading) (es fs : List Entry) → lastTurn es ≡ 4 → All Proper cs → readCards es cs ≡ Ok fs → DoorsLeft cs
 doors-only [] es fs last proper h = record { doors = []; fit = tt; is = refl }
 doors-only (c ∷ cs) es fs last proper h =
     let a = accepted es c cs fs h in
@@ -245,13 +243,13 @@ working-marks : Working ≡ Able → ⊥
 working-marks e = let z : _≡_ {A = ℕ} 0 1 = cc in omega arith
 
 MarksRead : List Reading → Type 0
-MarksRead cs = (es fs : List Entry) (b : ℕ) → lastSection es ≡ sections.Marks → length (branchesIn es) ≡ b → All Proper cs → readCards es cs ≡ Ok fs → MarksLeft b cs
+MarksRead cs = (es fs : List Entry) (b : ℕ) → lastTurn es ≡ 3 → length (branchesIn es) ≡ b → All Proper cs → readCards es cs ≡ Ok fs → MarksLeft b cs
 
 -- a mark or a door after branches or marks
-mark-case : (cs : List Reading) → MarksRead cs → (es fs : List Entry) (b : ℕ) (s : Section) → lastSection es ≡ s → follows s sections.Nodes ≡ false → length (branchesIn es) ≡ b → All Proper cs →
-    (k : Keyword) (ns : List ℕ) → Writable (k, ns) → follows (lastSection es) (sectionFor k) ≡ true → entryAsked es (entryOf k ns) ≡ Ok tt → readCards (entryOf k ns ∷ es) cs ≡ Ok fs → (k ≡ branch → ⊥) → MarksLeft b (card k (Some ns) ∷ cs)
+mark-case : (cs : List Reading) → MarksRead cs → (es fs : List Entry) (b : ℕ) (s : ℕ) → lastTurn es ≡ s → follows s 1 ≡ false → length (branchesIn es) ≡ b → All Proper cs →
+    (k : Keyword) (ns : List ℕ) → Writable (k, ns) → follows (lastTurn es) (turnOf k) ≡ true → entryAsked es (entryOf k ns) ≡ Ok tt → readCards (entryOf k ns ∷ es) cs ≡ Ok fs → (k ≡ branch → ⊥) → MarksLeft b (card k (Some ns) ∷ cs)
 unfolding MarksRead
-mark-case cs rest es fs b s last never long proper nodes ns w turn asks h other = absurd (not-next s sections.Nodes es last never turn)
+mark-case cs rest es fs b s last never long proper nodes ns w turn asks h other = absurd (not-next s 1 es last never turn)
 mark-case cs rest es fs b s last never long proper branch ns w turn asks h other = absurd (other refl)
 mark-case cs rest es fs b s last never long proper failed ns w turn asks h other =
     mark-first b (getD ns 0 0) Failed (card failed (Some ns)) cs (mark-sound es b (getD ns 0 0) Failed long failed-marks asks) (ap (λ ms. card failed (Some ms)) (one-of ns (w .count)))
@@ -262,18 +260,18 @@ mark-case cs rest es fs b s last never long proper working ns w turn asks h othe
 mark-case cs rest es fs b s last never long proper door ns w turn asks h other = door-first b ns cs w (doors-only cs (doorIs (getD ns 0 0) ∷ es) fs refl proper h)
 
 -- a deck does not end before a door
-not-ended : (es fs : List Entry) (s : Section) → lastSection es ≡ s → eqb (rank s) 4 ≡ false → readCards es [] ≡ Ok fs → ⊥
-not-ended es fs s last early h = true≢false (sym (from-ended (eqb (rank (lastSection es)) 4) es fs (refused Turn (length es + 1)) h .0) ∙ ap (λ x. eqb (rank x) 4) last ∙ early)
+not-ended : (es fs : List Entry) (s : ℕ) → lastTurn es ≡ s → eqb s 4 ≡ false → readCards es [] ≡ Ok fs → ⊥
+not-ended es fs s last early h = true≢false (sym (from-ended (eqb (lastTurn es) 4) es fs (refused Turn (length es + 1)) h .0) ∙ ap (λ x. eqb x 4) last ∙ early)
 
-not-branch : (es : List Entry) (k : Keyword) → lastSection es ≡ sections.Marks → follows (lastSection es) (sectionFor k) ≡ true → k ≡ branch → ⊥
-not-branch es k last turn is = not-next sections.Marks sections.Branches es last refl (ap (λ x. follows (lastSection es) (sectionFor x)) (sym is) ∙ turn)
+not-branch : (es : List Entry) (k : Keyword) → lastTurn es ≡ 3 → follows (lastTurn es) (turnOf k) ≡ true → k ≡ branch → ⊥
+not-branch es k last turn is = not-next 3 2 es last refl (ap (λ x. follows (lastTurn es) (turnOf x)) (sym is) ∙ turn)
 
 marks-only : (cs : List Reading) → MarksRead cs
 unfolding MarksRead
-marks-only [] es fs b last long proper h = absurd (not-ended es fs sections.Marks last refl h)
+marks-only [] es fs b last long proper h = absurd (not-ended es fs 3 last refl h)
 marks-only (c ∷ cs) es fs b last long proper h =
     let a = accepted es c cs fs h in
-    subst (λ x. MarksLeft b (x ∷ cs)) (sym (a .is)) (mark-case cs (marks-only cs) es fs b sections.Marks last refl long (proper .1) (a .k) (a .ns) (subst Proper (a .is) (proper .0)) (a .turn) (a .asks) (a .next) (not-branch es (a .k) last (a .turn)))
+    subst (λ x. MarksLeft b (x ∷ cs)) (sym (a .is)) (mark-case cs (marks-only cs) es fs b 3 last refl long (proper .1) (a .k) (a .ns) (subst Proper (a .is) (proper .0)) (a .turn) (a .asks) (a .next) (not-branch es (a .k) last (a .turn)))
 
 -- The branches before those: b of them so far, among n nodes.
 
@@ -313,7 +311,7 @@ record Rows (es : List Entry) (n b : ℕ) : Type 0 where
   long : length (branchesIn es) ≡ b
 
 RowsRead : List Reading → Type 0
-RowsRead cs = (es fs : List Entry) (n b : ℕ) → lastSection es ≡ sections.Branches → Rows es n b → b ≤ 64 → All Proper cs → readCards es cs ≡ Ok fs → RowsLeft n b cs
+RowsRead cs = (es fs : List Entry) (n b : ℕ) → lastTurn es ≡ 2 → Rows es n b → b ≤ 64 → All Proper cs → readCards es cs ≡ Ok fs → RowsLeft n b cs
 
 branch-case : (cs : List Reading) → RowsRead cs → (es fs : List Entry) (n b : ℕ) → Rows es n b → All Proper cs →
     (ns : List ℕ) → Writable (branch, ns) → entryAsked es (branchIs (rowOf ns)) ≡ Ok tt → readCards (branchIs (rowOf ns) ∷ es) cs ≡ Ok fs → SomeRows n b (card branch (Some ns) ∷ cs)
@@ -328,17 +326,17 @@ branch-case cs rest es fs n b r proper ns w asks h =
     (rest (branchIs (rowOf ns) ∷ es) fs n (b + 1) refl (record { nodes = r .nodes; long = length-push (branchesIn es) (rowOf ns) ∙ ap (λ m. m + 1) (r .long) }) (omega arith) proper h)
 
 -- a card after a branch
-row-case : (cs : List Reading) → RowsRead cs → (es fs : List Entry) (n b : ℕ) → lastSection es ≡ sections.Branches → Rows es n b → b ≤ 64 → All Proper cs →
-    (k : Keyword) (ns : List ℕ) → Writable (k, ns) → follows (lastSection es) (sectionFor k) ≡ true → entryAsked es (entryOf k ns) ≡ Ok tt → readCards (entryOf k ns ∷ es) cs ≡ Ok fs → RowsLeft n b (card k (Some ns) ∷ cs)
-row-case cs rest es fs n b last r room proper nodes ns w turn asks h = absurd (not-next sections.Branches sections.Nodes es last refl turn)
+row-case : (cs : List Reading) → RowsRead cs → (es fs : List Entry) (n b : ℕ) → lastTurn es ≡ 2 → Rows es n b → b ≤ 64 → All Proper cs →
+    (k : Keyword) (ns : List ℕ) → Writable (k, ns) → follows (lastTurn es) (turnOf k) ≡ true → entryAsked es (entryOf k ns) ≡ Ok tt → readCards (entryOf k ns ∷ es) cs ≡ Ok fs → RowsLeft n b (card k (Some ns) ∷ cs)
+row-case cs rest es fs n b last r room proper nodes ns w turn asks h = absurd (not-next 2 1 es last refl turn)
 row-case cs rest es fs n b last r room proper branch ns w turn asks h = branch-case cs rest es fs n b r proper ns w asks h .all
-row-case cs rest es fs n b last r room proper failed ns w turn asks h = no-more-rows n b _ room (mark-case cs (marks-only cs) es fs b sections.Branches last refl (r .long) proper failed ns w turn asks h (λ e. let z : _≡_ {A = ℕ} 0 1 = cc in omega arith))
-row-case cs rest es fs n b last r room proper working ns w turn asks h = no-more-rows n b _ room (mark-case cs (marks-only cs) es fs b sections.Branches last refl (r .long) proper working ns w turn asks h (λ e. let z : _≡_ {A = ℕ} 0 1 = cc in omega arith))
-row-case cs rest es fs n b last r room proper door ns w turn asks h = no-more-rows n b _ room (mark-case cs (marks-only cs) es fs b sections.Branches last refl (r .long) proper door ns w turn asks h (λ e. let z : _≡_ {A = ℕ} 0 1 = cc in omega arith))
+row-case cs rest es fs n b last r room proper failed ns w turn asks h = no-more-rows n b _ room (mark-case cs (marks-only cs) es fs b 2 last refl (r .long) proper failed ns w turn asks h (λ e. let z : _≡_ {A = ℕ} 0 1 = cc in omega arith))
+row-case cs rest es fs n b last r room proper working ns w turn asks h = no-more-rows n b _ room (mark-case cs (marks-only cs) es fs b 2 last refl (r .long) proper working ns w turn asks h (λ e. let z : _≡_ {A = ℕ} 0 1 = cc in omega arith))
+row-case cs rest es fs n b last r room proper door ns w turn asks h = no-more-rows n b _ room (mark-case cs (marks-only cs) es fs b 2 last refl (r .long) proper door ns w turn asks h (λ e. let z : _≡_ {A = ℕ} 0 1 = cc in omega arith))
 
 rows-only : (cs : List Reading) → RowsRead cs
 unfolding RowsRead
-rows-only [] es fs n b last r room proper h = absurd (not-ended es fs sections.Branches last refl h)
+rows-only [] es fs n b last r room proper h = absurd (not-ended es fs 2 last refl h)
 rows-only (c ∷ cs) es fs n b last r room proper h =
     let a = accepted es c cs fs h in
     subst (λ x. RowsLeft n b (x ∷ cs)) (sym (a .is)) (row-case cs (rows-only cs) es fs n b last r room (proper .1) (a .k) (a .ns) (subst Proper (a .is) (proper .0)) (a .turn) (a .asks) (a .next))
@@ -352,7 +350,7 @@ record Whole (cs : List Reading) : Type 0 where
 
 -- the card after NODES
 second-case : (cs : List Reading) (fs : List Entry) (n h : ℕ) → All Proper cs →
-    (k : Keyword) (ns : List ℕ) → Writable (k, ns) → follows sections.Nodes (sectionFor k) ≡ true → entryAsked (nodesAre n h ∷ []) (entryOf k ns) ≡ Ok tt → readCards (entryOf k ns ∷ nodesAre n h ∷ []) cs ≡ Ok fs → SomeRows n 0 (card k (Some ns) ∷ cs)
+    (k : Keyword) (ns : List ℕ) → Writable (k, ns) → follows 1 (turnOf k) ≡ true → entryAsked (nodesAre n h ∷ []) (entryOf k ns) ≡ Ok tt → readCards (entryOf k ns ∷ nodesAre n h ∷ []) cs ≡ Ok fs → SomeRows n 0 (card k (Some ns) ∷ cs)
 second-case cs fs n h proper nodes ns w turn asks g = absurd (false≢true turn)
 second-case cs fs n h proper branch ns w turn asks g = branch-case cs (rows-only cs) (nodesAre n h ∷ []) fs n 0 (record { nodes = refl; long = refl }) proper ns w asks g
 second-case cs fs n h proper failed ns w turn asks g = absurd (false≢true turn)
@@ -360,7 +358,7 @@ second-case cs fs n h proper working ns w turn asks g = absurd (false≢true tur
 second-case cs fs n h proper door ns w turn asks g = absurd (false≢true turn)
 
 after-nodes : (cs : List Reading) (fs : List Entry) (n h : ℕ) → All Proper cs → readCards (nodesAre n h ∷ []) cs ≡ Ok fs → SomeRows n 0 cs
-after-nodes [] fs n h proper g = absurd (not-ended (nodesAre n h ∷ []) fs sections.Nodes refl refl g)
+after-nodes [] fs n h proper g = absurd (not-ended (nodesAre n h ∷ []) fs 1 refl refl g)
 after-nodes (c ∷ cs) fs n h proper g =
     let a = accepted (nodesAre n h ∷ []) c cs fs g in
     subst (λ x. SomeRows n 0 (x ∷ cs)) (sym (a .is)) (second-case cs fs n h (proper .1) (a .k) (a .ns) (subst Proper (a .is) (proper .0)) (a .turn) (a .asks) (a .next))
@@ -390,7 +388,7 @@ whole cs n h asks rows =
     }
 
 first-case : (cs : List Reading) (fs : List Entry) → All Proper cs →
-    (k : Keyword) (ns : List ℕ) → Writable (k, ns) → follows sections.Start (sectionFor k) ≡ true → entryAsked [] (entryOf k ns) ≡ Ok tt → readCards (entryOf k ns ∷ []) cs ≡ Ok fs → Whole (card k (Some ns) ∷ cs)
+    (k : Keyword) (ns : List ℕ) → Writable (k, ns) → follows 0 (turnOf k) ≡ true → entryAsked [] (entryOf k ns) ≡ Ok tt → readCards (entryOf k ns ∷ []) cs ≡ Ok fs → Whole (card k (Some ns) ∷ cs)
 first-case cs fs proper nodes ns w turn asks g =
     let e = two-of ns (w .count) in
     subst (λ ms. Whole (card nodes (Some ms) ∷ cs)) (sym e) (whole cs (getD ns 0 0) (getD ns 1 0) (from-deck _ asks) (after-nodes cs fs (getD ns 0 0) (getD ns 1 0) proper g))
@@ -400,7 +398,7 @@ first-case cs fs proper working ns w turn asks g = absurd (false≢true turn)
 first-case cs fs proper door ns w turn asks g = absurd (false≢true turn)
 
 whole-deck : (cs : List Reading) (fs : List Entry) → All Proper cs → readCards [] cs ≡ Ok fs → Whole cs
-whole-deck [] fs proper g = absurd (not-ended [] fs sections.Start refl refl g)
+whole-deck [] fs proper g = absurd (not-ended [] fs 0 refl refl g)
 whole-deck (c ∷ cs) fs proper g =
     let a = accepted [] c cs fs g in
     subst (λ x. Whole (x ∷ cs)) (sym (a .is)) (first-case cs fs (proper .1) (a .k) (a .ns) (subst Proper (a .is) (proper .0)) (a .turn) (a .asks) (a .next))

@@ -21,10 +21,8 @@ use Rattle.network.specs.declared.branch.TableRow.{TableRow}
 use Rattle.network.specs.declared.branch.Condition.{Condition}
 use Rattle.network.specs.declared.branch.Condition.the-variants.{Able, Failed, Working}
 use Rattle.deck.specs.Cards.{Keyword, nodes, branch, failed, working, door, numbersFor, Reading, card, cards}
-use Rattle.deck.specs.Decks.{Entry, nodesAre, branchIs, markIs, doorIs, rowOf, entryOf, entryAsked, nodesIn, headIn, withCondition, marked, branchesIn, firstDoor, lastSection, sectionFor, rank, follows, toStudy, toDeck, planAsked, cardAfter, readCards, ended, deckOf}
+use Rattle.deck.specs.Decks.{Entry, nodesAre, branchIs, markIs, doorIs, rowOf, entryOf, entryAsked, nodesIn, headIn, withCondition, marked, branchesIn, firstDoor, lastTurn, turnOf, follows, toStudy, toDeck, planAsked, cardAfter, readCards, ended, deckOf}
 use Rattle.deck.specs.Laws.{Plan, SoundRow, SoundMark, Sound, nodesCard, branchCard, markWord, markCard, doorCard, planCards, applied, planDeck}
-use Rattle.deck.specs.declared.draft.Section.{Section}
-use Rattle.deck.specs.declared.draft.Section.the-variants as sections
 use Rattle.deck.proofs.Drafts.{length-marked}
 use Rattle.deck.proofs.Marks.{length-applied}
 use Rattle.deck.proofs.Steps.{card-taken, card-passes}
@@ -51,10 +49,10 @@ both-pass : (first second : Answer NetworkFault) → first ≡ Ok tt → second 
 both-pass first second p q = rw (p, q)
 
 -- a card of a later section may follow
-in-turn : (s t : Section) → 2 ≤ rank s → rank s ≤ rank t → follows s t ≡ true
+in-turn : (s t : ℕ) → 2 ≤ s → s ≤ t → follows s t ≡ true
 in-turn s t low high =
-    let past = le-ltb (rank s) 2 low in
-    let turn = le-leb (rank s) (rank t) high in
+    let past = le-ltb s 2 low in
+    let turn = le-leb s t high in
     rw (past, turn)
 
 row-is : (row : TableRow) → row .condition ≡ Able → rowOf (branchCard row .1) ≡ row
@@ -63,7 +61,7 @@ row-is row able = ap (λ c. withCondition c row) (sym able)
 -- What is known of the entries so far.
 
 pub record Taken (es : List Entry) (last n h : ℕ) (bs : List TableRow) (m : ℕ) : Type 0 where
-  pub turn : rank (lastSection es) ≤ last
+  pub turn : lastTurn es ≤ last
   pub nodes : nodesIn es ≡ n
   pub head : headIn es ≡ h
   pub rows : branchesIn es ≡ bs
@@ -74,11 +72,11 @@ pub record Taken (es : List Entry) (last n h : ℕ) (bs : List TableRow) (m : �
 pub record Reached (es : List Entry) (here rest : List Reading) (last n h : ℕ) (bs : List TableRow) (m : ℕ) : Type 0 where
   pub fs : List Entry
   pub same : readCards es (here ++ rest) ≡ readCards fs rest
-  pub begun : 2 ≤ rank (lastSection fs)
+  pub begun : 2 ≤ lastTurn fs
   pub taken : Taken fs last n h bs m
 
 one-branch : (es : List Entry) (n h : ℕ) (rows : List TableRow) (count : ℕ) (row : TableRow) → Taken es 2 n h rows count → SoundRow n row → length rows < 64 →
-    follows (lastSection es) sections.Branches ≡ true → cardAfter es (shown (branchCard row)) ≡ Ok (branchIs row)
+    follows (lastTurn es) 2 ≡ true → cardAfter es (shown (branchCard row)) ≡ Ok (branchIs row)
 one-branch es n h rows count row t s room turn =
     let is = row-is row (s .it-is-able-to-fail) in
     let few = count-asked (length (branchesIn es)) (omega (arith, ap length (t .rows))) in
@@ -95,7 +93,7 @@ branch-more es n h rows count row t = record {
   shut = t .shut;
 }
 
-rows-read : (more : List TableRow) (rest : List Reading) (es : List Entry) (n h : ℕ) (rows : List TableRow) (count : ℕ) → Taken es 2 n h rows count → 2 ≤ rank (lastSection es) → All (SoundRow n) more → length rows + length more ≤ 64 →
+rows-read : (more : List TableRow) (rest : List Reading) (es : List Entry) (n h : ℕ) (rows : List TableRow) (count : ℕ) → Taken es 2 n h rows count → 2 ≤ lastTurn es → All (SoundRow n) more → length rows + length more ≤ 64 →
     Reached es (map shown (map branchCard more)) rest 2 n h (rows ++ more) (count + length more)
 rows-read [] rest es n h rows count t low s room = record {
   fs = es;
@@ -104,7 +102,7 @@ rows-read [] rest es n h rows count t low s room = record {
   taken = record { turn = t .turn; nodes = t .nodes; head = t .head; rows = t .rows ∙ sym (append-nil rows); count = omega (arith, t .count); shut = t .shut };
 }
 rows-read (row ∷ more) rest es n h rows count t low s room =
-    let here = one-branch es n h rows count row t (s .0) (omega arith) (in-turn (lastSection es) sections.Branches low (t .turn)) in
+    let here = one-branch es n h rows count row t (s .0) (omega arith) (in-turn (lastTurn es) 2 low (t .turn)) in
     let long = length-push rows row in
     let next = rows-read more rest (branchIs row ∷ es) n h (rows ++ row ∷ []) (count + 1) (branch-more es n h rows count row t) (omega arith) (s .1) (omega arith) in
     record {
@@ -121,7 +119,7 @@ rows-read (row ∷ more) rest es n h rows count t low s room =
       };
     }
 
-one-mark : (es : List Entry) (b k : ℕ) (c : Condition) → SoundMark b (k, c) → length (branchesIn es) ≡ b → follows (lastSection es) sections.Marks ≡ true →
+one-mark : (es : List Entry) (b k : ℕ) (c : Condition) → SoundMark b (k, c) → length (branchesIn es) ≡ b → follows (lastTurn es) 3 ≡ true →
     cardAfter es (shown (markCard (k, c))) ≡ Ok (markIs k c)
 one-mark es b k Able s long turn = absurd (s .it-marks refl)
 one-mark es b k Failed s long turn = let there = lt-ltb k (length (branchesIn es)) (omega (arith, s .the-branch-is-there)) in card-passes es failed (k ∷ []) turn (rw there)
@@ -137,7 +135,7 @@ mark-more es n h rows count k c t = record {
   shut = t .shut;
 }
 
-marks-read : (more : List (ℕ × Condition)) (rest : List Reading) (es : List Entry) (n h b : ℕ) (rows : List TableRow) (count : ℕ) → Taken es 3 n h rows count → 2 ≤ rank (lastSection es) → length rows ≡ b → All (SoundMark b) more →
+marks-read : (more : List (ℕ × Condition)) (rest : List Reading) (es : List Entry) (n h b : ℕ) (rows : List TableRow) (count : ℕ) → Taken es 3 n h rows count → 2 ≤ lastTurn es → length rows ≡ b → All (SoundMark b) more →
     Reached es (map shown (map markCard more)) rest 3 n h (applied more rows) (count + length more)
 marks-read [] rest es n h b rows count t low long s = record {
   fs = es;
@@ -148,7 +146,7 @@ marks-read [] rest es n h b rows count t low long s = record {
 marks-read (mark ∷ more) rest es n h b rows count t low long s =
     let k = mark .0 in
     let c = mark .1 in
-    let here = one-mark es b k c (s .0) (ap length (t .rows) ∙ long) (in-turn (lastSection es) sections.Marks low (t .turn)) in
+    let here = one-mark es b k c (s .0) (ap length (t .rows) ∙ long) (in-turn (lastTurn es) 3 low (t .turn)) in
     let next = marks-read more rest (markIs k c ∷ es) n h b (marked k c rows) (count + 1) (mark-more es n h rows count k c t) (omega arith) (length-marked k c rows ∙ long) (s .1) in
     record {
       fs = next .fs;
@@ -173,10 +171,10 @@ pub record Finished (es : List Entry) (cs : List Reading) (n h : ℕ) (bs : List
   pub rows : branchesIn fs ≡ bs
   pub first : firstDoor fs ≡ at
 
-door-passes : (es : List Entry) (d : ℕ) → follows (lastSection es) sections.Doors ≡ true → cardAfter es (shown (doorCard d)) ≡ Ok (doorIs d)
+door-passes : (es : List Entry) (d : ℕ) → follows (lastTurn es) 4 ≡ true → cardAfter es (shown (doorCard d)) ≡ Ok (doorIs d)
 door-passes es d turn = card-passes es door (d ∷ []) turn refl
 
-more-doors : (more : List ℕ) (es : List Entry) (n h : ℕ) (bs : List TableRow) (at : ℕ) → lastSection es ≡ sections.Doors → nodesIn es ≡ n → headIn es ≡ h → branchesIn es ≡ bs → firstDoor es ≡ at → 0 < at →
+more-doors : (more : List ℕ) (es : List Entry) (n h : ℕ) (bs : List TableRow) (at : ℕ) → lastTurn es ≡ 4 → nodesIn es ≡ n → headIn es ≡ h → branchesIn es ≡ bs → firstDoor es ≡ at → 0 < at →
     Finished es (map shown (map doorCard more)) n h bs at
 more-doors [] es n h bs at last a b c first some = record { fs = es; same = rw last; nodes = a; head = b; rows = c; first = first }
 more-doors (d ∷ more) es n h bs at last a b c first some =
@@ -192,12 +190,12 @@ more-doors (d ∷ more) es n h bs at last a b c first some =
       first = next .first;
     }
 
-doors-read : (doors : List ℕ) (es : List Entry) (n h : ℕ) (bs : List TableRow) (count : ℕ) → Taken es 4 n h bs count → 2 ≤ rank (lastSection es) → 1 ≤ length doors →
+doors-read : (doors : List ℕ) (es : List Entry) (n h : ℕ) (bs : List TableRow) (count : ℕ) → Taken es 4 n h bs count → 2 ≤ lastTurn es → 1 ≤ length doors →
     Finished es (map shown (map doorCard doors)) n h bs (count + 1)
 doors-read [] es n h bs count t low some = absurd (omega arith)
 doors-read (d ∷ more) es n h bs count t low some =
     let shut = eq-eqb (firstDoor es) 0 (t .shut) in
-    let here = door-passes es d (in-turn (lastSection es) sections.Doors low (t .turn)) in
+    let here = door-passes es d (in-turn (lastTurn es) 4 low (t .turn)) in
     let next = more-doors more (doorIs d ∷ es) n h bs (count + 1) refl (t .nodes) (t .head) (t .rows) (rw shut (ap (λ m. m + 1) (t .count))) (omega arith) in
     record {
       fs = next .fs;

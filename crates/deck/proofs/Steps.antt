@@ -12,7 +12,7 @@ use Rattle.refusals.specs.declared.deck_fault.DeckFault.{DeckFault}
 use Rattle.refusals.specs.declared.deck_fault.DeckRefusal.{DeckRefusal}
 use Rattle.network.specs.Questions.{Answer}
 use Rattle.deck.specs.Cards.{Keyword, Reading, card}
-use Rattle.deck.specs.Decks.{Entry, entryOf, entryAsked, entered, follows, lastSection, sectionFor, cardAfter, readCards, refused}
+use Rattle.deck.specs.Decks.{Entry, entryOf, entryAsked, entered, follows, lastTurn, turnOf, cardAfter, readCards, refused}
 
 -- the rest of the reading, after the next card's answer
 unfoldable pub answer : List Entry → List Reading → ℕ → Result Entry DeckFault → Result (List Entry) DeckRefusal
@@ -24,7 +24,7 @@ unfolding answer
 card-taken es c cs e h = ap (answer es cs (length es + 1)) h
 
 -- a card in turn, with its numbers, that passes its questions
-pub card-passes : (es : List Entry) (k : Keyword) (ns : List ℕ) → follows (lastSection es) (sectionFor k) ≡ true → entryAsked es (entryOf k ns) ≡ Ok tt → cardAfter es (card k (Some ns)) ≡ Ok (entryOf k ns)
+pub card-passes : (es : List Entry) (k : Keyword) (ns : List ℕ) → follows (lastTurn es) (turnOf k) ≡ true → entryAsked es (entryOf k ns) ≡ Ok tt → cardAfter es (card k (Some ns)) ≡ Ok (entryOf k ns)
 card-passes es k ns turn passes = rw (turn, passes)
 
 pub from-turn : (b : Bool) (x : Result Entry DeckFault) (f : DeckFault) (e : Entry) → cond b x (Err f) ≡ Ok e → (b ≡ true) × (x ≡ Ok e)
