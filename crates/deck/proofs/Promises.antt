@@ -26,6 +26,7 @@ use Rattle.deck.proofs.Doorways.{doors-agree}
 use Rattle.deck.proofs.Texts.{shown, cards-text, ends-text}
 use Rattle.deck.proofs.Marks.{length-applied, unmarked-stays, last-holds}
 use Rattle.deck.proofs.Plans.{plan-back, plan-writable, shown-parts}
+use Rattle.deck.proofs.Decided.{up-to-the-line, table-kept}
 use Rattle.deck.proofs.Only.{some-plan}
 
 -- the cards of a sound plan's text
@@ -108,6 +109,8 @@ deck-laws bs table answer after a t = record {
   same-cards-same-answer = λ others e asks.
       let same = same-cards bs others (length table) e asks in
       (a ∙ ap deckRead same, t ∙ ap (λ r. tableAfter r table) same);
+  the-lines-up-to-a-refusal-decide = λ refusal is others asks same. is ∙ up-to-the-line bs others (length table) refusal (sym a ∙ is) asks same;
+  a-refusal-leaves-the-table = λ refusal is. t ∙ table-kept (readBytes (length table) bs) table refusal (sym a ∙ is);
 }
 
 pub door-laws : (bs : List ℕ) → DoorLaws bs

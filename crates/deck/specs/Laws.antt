@@ -2,13 +2,13 @@
 use Prim.Native.Nat.{ℕ, _+_, _^_, _≤_, _<_}
 use mathlib.Core.Path.{_≡_}
 use mathlib.Core.List.{List, [], _∷_, _++_, map}
-use lib.ListN.{length, drop}
+use lib.ListN.{length, take, drop}
 use Rattle.std.specs.Finite.{nth}
 use Rattle.std.specs.Written.{decimal}
 use Rattle.std.specs.shelf.Lists.{All}
 use Rattle.std.specs.declared.option.Option.the-variants.{Some}
 use Rattle.std.specs.declared.result.Result.{Result}
-use Rattle.std.specs.declared.result.Result.the-variants.{Ok}
+use Rattle.std.specs.declared.result.Result.the-variants.{Ok, Err}
 use Rattle.refusals.specs.declared.deck_fault.DeckRefusal.{DeckRefusal}
 use Rattle.network.specs.declared.branch.TableRow.{TableRow}
 use Rattle.network.specs.declared.branch.Condition.{Condition}
@@ -122,6 +122,9 @@ pub record DeckLaws (bs : List ℕ) (table : List TableRow) (answer : Result Dec
   pub nothing-else-is-accepted : (deck : Deck) → answer ≡ Ok deck → (plan : Plan) × Sound plan × Describes bs plan
   pub same-cards-same-answer : (others : List ℕ) → cards others ≡ cards bs → bytesAsked (length table) others ≡ bytesAsked (length table) bs
       → (answer ≡ deckRead (readBytes (length table) others)) × (after ≡ tableAfter (readBytes (length table) others) table)
+  pub the-lines-up-to-a-refusal-decide : (refusal : DeckRefusal) → answer ≡ Err refusal → (others : List ℕ) → bytesAsked (length table) others ≡ bytesAsked (length table) bs
+      → take (refusal .line) (cards others) ≡ take (refusal .line) (cards bs) → answer ≡ deckRead (readBytes (length table) others)
+  pub a-refusal-leaves-the-table : (refusal : DeckRefusal) → answer ≡ Err refusal → after ≡ table
 
 -- what Doors::new promises of the bytes: the doors that next_door will give
 pub record DoorLaws (bs : List ℕ) : Type 0 where
