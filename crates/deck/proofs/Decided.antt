@@ -15,7 +15,6 @@ use Rattle.network.specs.Questions.{Answer}
 use Rattle.network.specs.declared.branch.TableRow.{TableRow}
 use Rattle.deck.specs.Cards.{Reading, cards}
 use Rattle.deck.specs.Decks.{Entry, lastTurn, cardAfter, readCards, readIf, readBytes, bytesAsked, refused, deckRead, tableAfter}
-use Rattle.deck.specs.declared.reader.Deck.{Deck}
 use Rattle.deck.proofs.Steps.{answer}
 
 not-ended : (b : Bool) (es : List Entry) (n : ℕ) (r : DeckRefusal) → cond b (Ok es) (Err (refused Turn n)) ≡ Err r → n ≡ r .line

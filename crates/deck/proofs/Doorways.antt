@@ -1,22 +1,20 @@
 -- The doors of the lines and those of the entries.
 use mathlib.Core.Path.{_≡_, refl, sym, ap, _∙_}
-use mathlib.Core.Bool.{Bool, true, false, cond}
+use mathlib.Core.Bool.{true, false}
 use mathlib.Core.List.{List, [], _∷_, _++_, append-assoc, append-nil, map}
-use Prim.Native.Nat.{ℕ, zero, suc, _+_, _≤_, _<_}
+use Prim.Native.Nat.{ℕ, _+_}
 use native.Mathlib.Omega.{arith}
-use borrow.Author.Needs.{needs}
 use lib.Dec.{eqb}
-use lib.ListN.{length, take, drop, getD}
+use lib.ListN.{length, take, drop}
 use Rattle.std.specs.declared.option.Option.{Option}
 use Rattle.std.specs.declared.option.Option.the-variants.{Some, None}
 use Rattle.std.specs.declared.result.Result.{Result}
 use Rattle.std.specs.declared.result.Result.the-variants.{Ok, Err}
 use Rattle.refusals.specs.declared.deck_fault.DeckFault.{DeckFault}
-use Rattle.refusals.specs.declared.deck_fault.DeckRefusal.{DeckRefusal}
 use Rattle.network.specs.Questions.{Answer}
 use Rattle.deck.specs.Words.{words, lines}
 use Rattle.deck.specs.Cards.{Keyword, nodes, branch, failed, working, door, Reading, unknown, card, cardOn, cards}
-use Rattle.deck.specs.Decks.{Entry, nodesAre, branchIs, markIs, doorIs, entryOf, cardAfter, counted, entered, entryAsked, readCards, readBytes, readIf, bytesAsked, refused}
+use Rattle.deck.specs.Decks.{Entry, nodesAre, branchIs, markIs, doorIs, entryOf, cardAfter, counted, entryAsked, readCards, readBytes, readIf, bytesAsked}
 use Rattle.deck.specs.Doorways.{doorOn, before, doorsIn, doorsOf}
 use Rattle.deck.specs.Drafts.{Untitled}
 use Rattle.std.proofs.shelf.Tests.{eqb-true, eqb-false}
@@ -51,7 +49,6 @@ counted-door es k (Some ns) e h = entry-door k ns ∙ ap doorOf (from-entered (e
 card-door : (es : List Entry) (c : Reading) (e : Entry) → cardAfter es c ≡ Ok e → doorOn c ≡ doorOf e
 card-door es unknown e h = let z : _≡_ {A = ℕ} 0 1 = cc in absurd (omega arith)
 card-door es (card k ns) e h = counted-door es k ns e (from-turn _ _ _ e h .1)
-
 
 step : (c : Reading) (cs : List Reading) → ((es fs : List Entry) → readCards es cs ≡ Ok fs → doorsOf fs ≡ doorsOf es ++ doorsIn cs) → (es fs : List Entry) (o : Result Entry DeckFault) → cardAfter es c ≡ o → answer es cs (length es + 1) o ≡ Ok fs → doorsOf fs ≡ doorsOf es ++ doorsIn (c ∷ cs)
 unfolding answer

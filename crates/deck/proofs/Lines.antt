@@ -1,13 +1,13 @@
 -- The state between two lines, and one line more.
 use mathlib.Core.Path.{_≡_, refl, sym, ap, subst, _∙_}
 use mathlib.Core.Bool.{Bool, true, false, cond}
-use mathlib.Core.List.{List, [], _∷_, _++_, map}
-use Prim.Native.Nat.{ℕ, zero, suc, _+_, _-_, _≤_, _<_}
+use mathlib.Core.List.{List, [], _∷_, map}
+use Prim.Native.Nat.{ℕ, _+_, _-_, _≤_, _<_}
 use native.Mathlib.Omega.{arith}
 use lib.Dec.{eqb}
 use lib.ListN.{length, take, drop, getD, length-drop}
 use Rattle.std.proofs.shelf.Lists.{getD-drop}
-use Rattle.std.proofs.shelf.Tests.{eqb-true, eq-eqb, cond-true, cond-false, cases-lt}
+use Rattle.std.proofs.shelf.Tests.{eqb-true, eq-eqb, cases-lt}
 use mathlib.Core.Logic.{⊎-elim}
 use Rattle.std.specs.declared.result.Result.{Result}
 use Rattle.std.specs.declared.result.Result.the-variants.{Ok, Err}
@@ -17,7 +17,7 @@ use Rattle.refusals.specs.declared.deck_fault.DeckFault.the-variants.{Turn}
 use Rattle.refusals.specs.declared.deck_fault.DeckRefusal.{DeckRefusal}
 use Rattle.network.specs.Questions.{asked}
 use Rattle.deck.specs.Words.{lines, words}
-use Rattle.deck.specs.Cards.{Reading, cardOn, cards}
+use Rattle.deck.specs.Cards.{cardOn, cards}
 use Rattle.deck.specs.Decks.{Entry, cardAfter, readCards, refused, endsLine, lastTurn, ended}
 use Rattle.deck.specs.Drafts.{rank, Holds, Next, TakesLine, ReadTo}
 use Rattle.deck.specs.declared.draft.Draft.{Draft}

@@ -1,7 +1,7 @@
 -- Only decks of sound plans are accepted.
 use mathlib.Core.Path.{_≡_, refl, sym, ap, subst, _∙_}
 use mathlib.Core.Bool.{Bool, true, false, cond, _&&_}
-use mathlib.Core.List.{List, [], _∷_, _++_, map, map-append}
+use mathlib.Core.List.{List, [], _∷_, _++_, map}
 use Prim.Native.Nat.{ℕ, zero, suc, _-_, _+_, _^_, _≤_, _<_}
 use native.Mathlib.Omega.{arith}
 use lib.Dec.{eqb, leb, ltb}
@@ -14,12 +14,11 @@ use Rattle.std.specs.declared.option.Option.the-variants.{Some, None}
 use Rattle.std.specs.declared.result.Result.{Result}
 use Rattle.std.specs.declared.result.Result.the-variants.{Ok, Err}
 use Rattle.std.proofs.shelf.Lists.{length-push}
-use Rattle.std.proofs.shelf.Tests.{ltb-true, leb-true, eqb-true, and-parts, true≢false, false≢true}
+use Rattle.std.proofs.shelf.Tests.{ltb-true, leb-true, and-parts, true≢false, false≢true}
 use Rattle.refusals.specs.declared.network_fault.NetworkFault.{NetworkFault}
 use Rattle.refusals.specs.declared.study_fault.StudyFault.{StudyFault}
 use Rattle.refusals.specs.declared.deck_fault.DeckFault.{DeckFault}
 use Rattle.refusals.specs.declared.deck_fault.DeckFault.the-variants.{Numbers, Turn}
-use Rattle.refusals.specs.declared.deck_fault.DeckRefusal.{DeckRefusal}
 use Rattle.network.specs.Questions.{Answer, asked, andThen, nodesAsked, countAsked, rowAsked, headAsked}
 use Rattle.network.specs.Ratings.{ratingFits}
 use Rattle.network.specs.declared.branch.TableRow.{TableRow}
@@ -27,7 +26,7 @@ use Rattle.network.specs.declared.branch.Condition.{Condition}
 use Rattle.network.specs.declared.branch.Condition.the-variants.{Able, Failed, Working}
 use Rattle.deck.specs.Words.{words, lines, numberOf, numbersIn, prefixed}
 use Rattle.deck.specs.Cards.{Keyword, nodes, branch, failed, working, door, numbersFor, keywordFor, Reading, unknown, card, cardBy, cardOn, cards}
-use Rattle.deck.specs.Decks.{Entry, nodesAre, branchIs, markIs, doorIs, rowOf, entryOf, entryAsked, nodesIn, branchesIn, marked, lastTurn, turnOf, follows, toStudy, toDeck, planAsked, counted, cardAfter, readCards, readBytes, readIf, bytesAsked, refused}
+use Rattle.deck.specs.Decks.{Entry, nodesAre, branchIs, markIs, doorIs, rowOf, entryOf, entryAsked, nodesIn, branchesIn, lastTurn, turnOf, follows, toStudy, toDeck, planAsked, counted, cardAfter, readCards, readBytes, readIf, bytesAsked, refused}
 use Rattle.deck.specs.Laws.{Plan, SoundRow, SoundMark, Sound, nodesCard, branchCard, markCard, doorCard, planCards, written, Describes}
 use Rattle.deck.proofs.Drafts.{length-marked}
 use Rattle.deck.proofs.Steps.{answer, from-turn, from-entered, from-ended}

@@ -1,27 +1,22 @@
 -- The deck of a sound plan is read back.
-use mathlib.Core.Path.{_≡_, refl, sym, ap, subst, _∙_}
-use mathlib.Core.Bool.{Bool, true, false, cond, _&&_}
+use mathlib.Core.Path.{_≡_, refl, sym, ap, _∙_}
+use mathlib.Core.Bool.{true}
 use mathlib.Core.List.{List, [], _∷_, _++_, append-assoc, append-nil, map, map-append}
-use Prim.Native.Nat.{ℕ, zero, suc, _-_, _+_, _^_, _≤_, _<_}
+use Prim.Native.Nat.{ℕ, _-_, _+_, _^_, _≤_, _<_}
 use native.Mathlib.Omega.{arith}
-use lib.Dec.{eqb, leb, ltb}
-use lib.ListN.{length, getD, drop, length-append}
+use lib.ListN.{length}
 use Rattle.std.specs.shelf.Lists.{All}
-use Rattle.std.specs.declared.option.Option.the-variants.{Some, None}
-use Rattle.std.specs.declared.result.Result.{Result}
-use Rattle.std.specs.declared.result.Result.the-variants.{Ok, Err}
+use Rattle.std.specs.declared.result.Result.the-variants.{Ok}
 use Rattle.std.proofs.shelf.Elements.{all-append, all-map, all-weaker}
 use Rattle.std.proofs.shelf.Lists.{length-push}
 use Rattle.std.proofs.shelf.Tests.{lt-ltb, le-ltb, le-leb, eq-eqb, ne-eqb, and-from}
-use Rattle.refusals.specs.declared.deck_fault.DeckRefusal.{DeckRefusal}
 use Rattle.refusals.specs.declared.network_fault.NetworkFault.{NetworkFault}
-use Rattle.network.specs.Questions.{Answer, andThen, nodesAsked, countAsked, rowAsked, headAsked}
-use Rattle.network.specs.Ratings.{ratingFits}
+use Rattle.network.specs.Questions.{Answer, andThen, countAsked, rowAsked}
 use Rattle.network.specs.declared.branch.TableRow.{TableRow}
 use Rattle.network.specs.declared.branch.Condition.{Condition}
 use Rattle.network.specs.declared.branch.Condition.the-variants.{Able, Failed, Working}
-use Rattle.deck.specs.Cards.{Keyword, nodes, branch, failed, working, door, numbersFor, Reading, card, cards}
-use Rattle.deck.specs.Decks.{Entry, nodesAre, branchIs, markIs, doorIs, rowOf, entryOf, entryAsked, nodesIn, headIn, withCondition, marked, branchesIn, firstDoor, lastTurn, turnOf, follows, toStudy, toDeck, planAsked, cardAfter, readCards, ended, deckOf}
+use Rattle.deck.specs.Cards.{nodes, branch, failed, working, door, numbersFor, Reading, card, cards}
+use Rattle.deck.specs.Decks.{Entry, nodesAre, branchIs, markIs, doorIs, rowOf, nodesIn, headIn, withCondition, marked, branchesIn, firstDoor, lastTurn, follows, toStudy, toDeck, planAsked, cardAfter, readCards, deckOf}
 use Rattle.deck.specs.Laws.{Plan, SoundRow, SoundMark, Sound, nodesCard, branchCard, markWord, markCard, doorCard, planCards, applied, planDeck}
 use Rattle.deck.proofs.Drafts.{length-marked}
 use Rattle.deck.proofs.Marks.{length-applied}
@@ -286,10 +281,11 @@ door-writable : (d : ℕ) → d < 2 ^ 32 → Writable (doorCard d)
 door-writable d l = record { count = refl; small = (l, tt) }
 
 pub plan-writable : (plan : Plan) → Sound plan → All Writable (planCards plan)
-plan-writable plan s =
-    (record { count = refl; small = (omega (arith, s .at-most-32-nodes), (omega (arith, s .at-most-32-nodes, s .the-head-is-a-node), tt)) },
-    all-append Writable (map branchCard (plan .rows)) _
-    (all-map Writable branchCard (plan .rows) (all-weaker _ _ (row-writable (plan .nodes) (s .at-most-32-nodes)) (plan .rows) (s .each-branch-is-sound)))
-    (all-append Writable (map markCard (plan .marks)) _
-    (all-map Writable markCard (plan .marks) (all-weaker _ _ (mark-writable (length (plan .rows)) (s .at-most-64-branches)) (plan .marks) (s .each-mark-is-sound)))
-    (all-map Writable doorCard (plan .doors) (all-weaker _ _ door-writable (plan .doors) (s .each-door-fits-32-bits)))))
+plan-writable plan s = (
+  record { count = refl; small = (omega (arith, s .at-most-32-nodes), (omega (arith, s .at-most-32-nodes, s .the-head-is-a-node), tt)) },
+  all-append Writable (map branchCard (plan .rows)) _
+      (all-map Writable branchCard (plan .rows) (all-weaker _ _ (row-writable (plan .nodes) (s .at-most-32-nodes)) (plan .rows) (s .each-branch-is-sound)))
+      (all-append Writable (map markCard (plan .marks)) _
+      (all-map Writable markCard (plan .marks) (all-weaker _ _ (mark-writable (length (plan .rows)) (s .at-most-64-branches)) (plan .marks) (s .each-mark-is-sound)))
+      (all-map Writable doorCard (plan .doors) (all-weaker _ _ door-writable (plan .doors) (s .each-door-fits-32-bits)))),
+)

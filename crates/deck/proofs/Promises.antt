@@ -1,26 +1,22 @@
 -- The laws of the public calls.
-use mathlib.Core.Path.{_≡_, refl, sym, ap, subst, _∙_}
-use mathlib.Core.Bool.{true, _&&_}
-use mathlib.Core.List.{List, [], _∷_, _++_, append-nil, map}
-use Prim.Native.Nat.{ℕ, _-_, _+_, _≤_, _<_}
+use mathlib.Core.Path.{_≡_, refl, sym, ap, _∙_}
+use mathlib.Core.List.{List, [], _∷_, _++_, map}
+use Prim.Native.Nat.{ℕ, _-_, _+_, _≤_}
 use native.Mathlib.Omega.{arith}
 use lib.Dec.{leb}
 use lib.ListN.{length, drop}
 use Rattle.std.specs.Finite.{nth}
-use Rattle.std.specs.declared.option.Option.the-variants.{Some, None}
 use Rattle.std.specs.declared.result.Result.{Result}
 use Rattle.std.specs.declared.result.Result.the-variants.{Ok, Err}
 use Rattle.std.proofs.shelf.Tests.{le-leb, eq-eqb, and-from}
-use Rattle.refusals.specs.declared.deck_fault.DeckFault.{DeckFault}
 use Rattle.refusals.specs.declared.deck_fault.DeckRefusal.{DeckRefusal}
-use Rattle.network.specs.Questions.{Answer}
 use Rattle.network.specs.declared.branch.TableRow.{TableRow}
 use Rattle.network.specs.declared.branch.Condition.{Condition}
 use Rattle.network.specs.declared.branch.Condition.the-variants.{Able, Failed, Working}
-use Rattle.deck.specs.Cards.{Reading, card, cards}
-use Rattle.deck.specs.Decks.{Entry, branchesIn, endsLine, bytesAsked, readIf, readCards, readBytes, deckOf, deckRead, tableAfter}
+use Rattle.deck.specs.Cards.{Reading, cards}
+use Rattle.deck.specs.Decks.{Entry, branchesIn, endsLine, bytesAsked, readIf, readCards, readBytes, deckRead, tableAfter}
 use Rattle.deck.specs.Doorways.{doorsIn}
-use Rattle.deck.specs.Laws.{Plan, Sound, nodesCard, branchCard, markWord, markCard, doorCard, planCards, text, written, applied, described, planDeck, ComesBack, Describes, DeckLaws, DoorLaws}
+use Rattle.deck.specs.Laws.{Plan, Sound, nodesCard, branchCard, markCard, doorCard, planCards, text, written, applied, described, ComesBack, Describes, DeckLaws, DoorLaws}
 use Rattle.deck.specs.declared.reader.Deck.{Deck}
 use Rattle.deck.proofs.Doorways.{doors-agree}
 use Rattle.deck.proofs.Texts.{shown, cards-text, ends-text}

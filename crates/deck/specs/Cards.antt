@@ -41,9 +41,9 @@ abbrev pub keywordFor : List ℕ → Option Keyword
 keywordFor w =
     cond (same w (spelled nodes)) (Some nodes)
     (cond (same w (spelled branch)) (Some branch)
-     (cond (same w (spelled failed)) (Some failed)
-      (cond (same w (spelled working)) (Some working)
-       (cond (same w (spelled door)) (Some door) None))))
+    (cond (same w (spelled failed)) (Some failed)
+    (cond (same w (spelled working)) (Some working)
+    (cond (same w (spelled door)) (Some door) None))))
 
 -- what a line says: none of the five words, or a word with its numbers, None where those are not exactly the word's
 pub data Reading : Type 0 where

@@ -1,6 +1,6 @@
 -- The reader's inner bookkeeping: how it stands between two bytes, two words and two lines. Only private contracts cite it,
 -- so what a deck means can be read without it.
-use Prim.Native.Nat.{ℕ, zero, suc, _+_, _≤_}
+use Prim.Native.Nat.{ℕ, suc, _+_, _≤_}
 use mathlib.Core.Path.{_≡_}
 use mathlib.Core.Bool.{Bool, true, cond}
 use mathlib.Core.List.{List, [], _∷_, _++_}

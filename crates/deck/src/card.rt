@@ -1,5 +1,4 @@
 // The card of a line, by its first word; its numbers stay in the bytes of the deck.
-ghost use Prim.Native.Nat.{ℕ};
 ghost use mathlib.Core.Path.{_≡_};
 ghost use Rattle.std.specs.Results.{Cases};
 ghost use Rattle.refusals.specs.declared.deck_fault.DeckFault.the-variants.{Word};
@@ -35,9 +34,14 @@ fn mark_or_door(bytes: &[u8], line: u32) -> Result<Card<'_>, DeckFault>
         ⌝ }
 {
     match bytes {
-        [b'F', b'A', b'I', b'L', b'E', b'D', numbers @ ..] if ends_word(numbers) => Ok(Card::Failed { line, numbers }),
-        [b'W', b'O', b'R', b'K', b'I', b'N', b'G', numbers @ ..] if ends_word(numbers) => Ok(Card::Working { line, numbers }),
-        [b'D', b'O', b'O', b'R', numbers @ ..] if ends_word(numbers) => Ok(Card::Door { line, numbers }),
+        [b'F', b'A', b'I', b'L', b'E', b'D', numbers @ ..] if ends_word(numbers) =>
+            Ok(Card::Failed { line, numbers }),
+        [b'W', b'O', b'R', b'K', b'I', b'N', b'G', numbers @ ..] if ends_word(numbers) =>
+            Ok(Card::Working { line, numbers }),
+        [b'D', b'O', b'O', b'R', numbers @ ..] if ends_word(numbers) => Ok(Card::Door {
+            line,
+            numbers,
+        }),
         _ => Err(DeckFault::Word),
     }
 }
@@ -47,8 +51,12 @@ pub(crate) fn card_of(bytes: &[u8], line: u32) -> Result<Card<'_>, DeckFault>
     ensures { λ r. ⌜ Cases r (λ found. Titled (now (bytes .entry)) line found) (λ fault. (fault ≡ Word) × Untitled (now (bytes .entry))) ⌝ }
 {
     match bytes {
-        [b'N', b'O', b'D', b'E', b'S', numbers @ ..] if ends_word(numbers) => Ok(Card::Nodes { line, numbers }),
-        [b'B', b'R', b'A', b'N', b'C', b'H', numbers @ ..] if ends_word(numbers) => Ok(Card::Branch { line, numbers }),
+        [b'N', b'O', b'D', b'E', b'S', numbers @ ..] if ends_word(numbers) => Ok(Card::Nodes {
+            line,
+            numbers,
+        }),
+        [b'B', b'R', b'A', b'N', b'C', b'H', numbers @ ..] if ends_word(numbers) =>
+            Ok(Card::Branch { line, numbers }),
         _ => mark_or_door(bytes, line),
     }
 }

@@ -1,5 +1,4 @@
 // The doors of a deck, one after the other.
-ghost use Prim.Native.Nat.{ℕ};
 ghost use mathlib.Core.Path.{_≡_};
 ghost use lib.ListN.{drop};
 ghost use Rattle.deck.specs.Words.{words};
@@ -22,7 +21,12 @@ fn door_of(line: &[u8]) -> Option<u32>
     ensures { λ r. ⌜ r ≡ doorOn (cardOn (words (now (line .entry)))) ⌝ }
 {
     match card_of(line, 0) {
-        Ok(Card::Door { line: _, numbers: words }) => {
+        Ok(
+            Card::Door {
+                line: _,
+                numbers: words,
+            },
+        ) => {
             let [door] = numbers::<1>(words)?;
             Some(door)
         }

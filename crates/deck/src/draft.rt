@@ -1,5 +1,5 @@
 // A deck as it is read, card by card.
-ghost use Prim.Native.Nat.{ℕ, _≤_};
+ghost use Prim.Native.Nat.{_≤_};
 ghost use mathlib.Core.Path.{_≡_};
 ghost use mathlib.Core.Bool.{true};
 ghost use mathlib.Core.List.{[], _++_};
@@ -42,7 +42,10 @@ impl Section {
         match self {
             Section::Start => matches!(next, Section::Nodes),
             Section::Nodes => matches!(next, Section::Branches),
-            Section::Branches => matches!(next, Section::Branches | Section::Marks | Section::Doors),
+            Section::Branches => matches!(
+                next,
+                Section::Branches | Section::Marks | Section::Doors
+            ),
             Section::Marks => matches!(next, Section::Marks | Section::Doors),
             Section::Doors => matches!(next, Section::Doors),
         }
@@ -72,7 +75,14 @@ impl Draft {
     pub(crate) fn new() -> Draft
         ensures { λ r. ⌜ Holds r [] ⌝ }
     {
-        Draft { section: Section::Start, nodes: 0, head: 0, count: 0, door: 0, rows: [TableRow::BLANK; 64] }
+        Draft {
+            section: Section::Start,
+            nodes: 0,
+            head: 0,
+            count: 0,
+            door: 0,
+            rows: [TableRow::BLANK; 64],
+        }
     }
 
     fn put_nodes(&mut self, line: u32, words: &[u8]) -> Result<(), DeckFault>
@@ -99,7 +109,13 @@ impl Draft {
             return Err(DeckFault::Turn);
         }
         let [from, to, mantissa, exponent] = numbers::<4>(words).ok_or(DeckFault::Numbers)?;
-        let row = TableRow { from, to, mantissa, exponent, condition: Condition::Able };
+        let row = TableRow {
+            from,
+            to,
+            mantissa,
+            exponent,
+            condition: Condition::Able,
+        };
         check_branch_count(self.count as usize + 1)?;
         check_row(self.nodes, self.count, &row)?;
         self.rows[self.count as usize] = row;
@@ -177,7 +193,12 @@ impl Draft {
     pub(crate) fn deck(&self) -> Deck
         ensures { λ r. ⌜ r ≡ heldDeck (now (self .entry)) ⌝ }
     {
-        Deck { nodes: self.nodes, head: self.head, branches: self.count, door_line: self.door }
+        Deck {
+            nodes: self.nodes,
+            head: self.head,
+            branches: self.count,
+            door_line: self.door,
+        }
     }
 
     // Writes the rows into a table; its later places stay.
