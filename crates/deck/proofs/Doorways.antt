@@ -1,26 +1,25 @@
 -- The doors of the lines and those of the entries.
 use mathlib.Core.Path.{_≡_, refl, sym, ap, _∙_}
-use mathlib.Core.Bool.{Bool, true, false, cond}
+use mathlib.Core.Bool.{true, false}
 use mathlib.Core.List.{List, [], _∷_, _++_, append-assoc, append-nil, map}
-use Prim.Native.Nat.{ℕ, zero, suc, _+_, _≤_, _<_}
+use Prim.Native.Nat.{ℕ, _+_}
 use native.Mathlib.Omega.{arith}
-use borrow.Author.Needs.{needs}
 use lib.Dec.{eqb}
-use lib.ListN.{length, take, drop, getD}
+use lib.ListN.{length, take, drop}
 use Rattle.std.specs.declared.option.Option.{Option}
 use Rattle.std.specs.declared.option.Option.the-variants.{Some, None}
 use Rattle.std.specs.declared.result.Result.{Result}
 use Rattle.std.specs.declared.result.Result.the-variants.{Ok, Err}
 use Rattle.refusals.specs.declared.deck_fault.DeckFault.{DeckFault}
-use Rattle.refusals.specs.declared.deck_fault.DeckRefusal.{DeckRefusal}
 use Rattle.network.specs.Questions.{Answer}
 use Rattle.deck.specs.Words.{words, lines}
 use Rattle.deck.specs.Cards.{Keyword, nodes, branch, failed, working, door, Reading, unknown, card, cardOn, cards}
-use Rattle.deck.specs.Decks.{Entry, nodesAre, branchIs, markIs, doorIs, entryOf, cardAfter, counted, entered, entryAsked, readCards, readBytes, readIf, bytesAsked, refused}
+use Rattle.deck.specs.Decks.{Entry, nodesAre, branchIs, markIs, doorIs, entryOf, cardAfter, counted, entryAsked, readCards, readBytes, readIf, bytesAsked}
 use Rattle.deck.specs.Doorways.{doorOn, before, doorsIn, doorsOf}
 use Rattle.deck.specs.Drafts.{Untitled}
 use Rattle.std.proofs.shelf.Tests.{eqb-true, eqb-false}
 use Rattle.deck.proofs.Pieces.{First, next-line}
+use Rattle.deck.proofs.Steps.{answer, from-turn, from-entered, from-ended}
 use Rattle.deck.proofs.Titles.{untitled-card}
 
 -- the door of an entry
@@ -35,15 +34,6 @@ doors-step es (nodesAre n h) ds = refl
 doors-step es (branchIs b) ds = refl
 doors-step es (markIs k c) ds = refl
 doors-step es (doorIs d) ds = append-assoc (doorsOf es) (d ∷ []) ds
-
--- what an accepted card went through
-pub from-turn : (b : Bool) (x : Result Entry DeckFault) (f : DeckFault) (e : Entry) → cond b x (Err f) ≡ Ok e → (b ≡ true) × (x ≡ Ok e)
-from-turn true x f e h = (refl, h)
-from-turn false x f e h = let z : _≡_ {A = ℕ} 0 1 = cc in absurd (omega arith)
-
-pub from-entered : (d : Entry) (r : Answer DeckFault) (e : Entry) → entered d r ≡ Ok e → (d ≡ e) × (r ≡ Ok tt)
-from-entered d (Ok u) e h = (cc, refl)
-from-entered d (Err f) e h = let z : _≡_ {A = ℕ} 0 1 = cc in absurd (omega arith)
 
 entry-door : (k : Keyword) (ns : List ℕ) → doorOn (card k (Some ns)) ≡ doorOf (entryOf k ns)
 entry-door nodes ns = refl
@@ -60,21 +50,13 @@ card-door : (es : List Entry) (c : Reading) (e : Entry) → cardAfter es c ≡ O
 card-door es unknown e h = let z : _≡_ {A = ℕ} 0 1 = cc in absurd (omega arith)
 card-door es (card k ns) e h = counted-door es k ns e (from-turn _ _ _ e h .1)
 
-pub from-ended : (b : Bool) (es fs : List Entry) (f : DeckRefusal) → cond b (Ok es) (Err f) ≡ Ok fs → (b ≡ true) × (es ≡ fs)
-from-ended true es fs f h = (refl, cc)
-from-ended false es fs f h = let z : _≡_ {A = ℕ} 0 1 = cc in absurd (omega arith)
-
-after : List Entry → List Reading → ℕ → Result Entry DeckFault → Result (List Entry) DeckRefusal
-after es cs n (Ok e) = readCards (e ∷ es) cs
-after es cs n (Err f) = Err (refused f n)
-
-step : (c : Reading) (cs : List Reading) → ((es fs : List Entry) → readCards es cs ≡ Ok fs → doorsOf fs ≡ doorsOf es ++ doorsIn cs) → (es fs : List Entry) (o : Result Entry DeckFault) → cardAfter es c ≡ o → after es cs (length es + 1) o ≡ Ok fs → doorsOf fs ≡ doorsOf es ++ doorsIn (c ∷ cs)
-unfolding after
+step : (c : Reading) (cs : List Reading) → ((es fs : List Entry) → readCards es cs ≡ Ok fs → doorsOf fs ≡ doorsOf es ++ doorsIn cs) → (es fs : List Entry) (o : Result Entry DeckFault) → cardAfter es c ≡ o → answer es cs (length es + 1) o ≡ Ok fs → doorsOf fs ≡ doorsOf es ++ doorsIn (c ∷ cs)
+unfolding answer
 step c cs rest es fs (Ok e) p h = rest (e ∷ es) fs h ∙ doors-step es e (doorsIn cs) ∙ ap (λ o. doorsOf es ++ before o (doorsIn cs)) (sym (card-door es c e p))
 step c cs rest es fs (Err f) p h = let z : _≡_ {A = ℕ} 0 1 = cc in absurd (omega arith)
 
 cards-doors : (cs : List Reading) (es fs : List Entry) → readCards es cs ≡ Ok fs → doorsOf fs ≡ doorsOf es ++ doorsIn cs
-unfolding after
+unfolding answer
 cards-doors [] es fs h = ap doorsOf (sym (from-ended _ es fs _ h .1)) ∙ sym (append-nil (doorsOf es))
 cards-doors (c ∷ cs) es fs h = step c cs (cards-doors cs) es fs (cardAfter es c) refl h
 

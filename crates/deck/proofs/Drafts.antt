@@ -4,7 +4,7 @@ use mathlib.Core.List.{List, [], _∷_, _++_}
 use Prim.Native.Nat.{ℕ, zero, suc, _+_, _≤_, _<_}
 use native.Mathlib.Omega.{arith}
 use lib.ListN.{length, take, set, getD, length-set}
-use Rattle.std.proofs.shelf.Lists.{take-more-set, length-push, getD-take, length-take-le}
+use Rattle.std.proofs.shelf.Lists.{take-more-set, length-push}
 use Rattle.std.proofs.shelf.Ways.{tells}
 use denote.Ref.{RefT}
 use Rattle.network.specs.Questions.{Answer, countAsked}
@@ -16,7 +16,7 @@ use Rattle.deck.specs.Drafts.{Holds, Next, Takes, TakesMark, keywordOf, lineOf
 use Rattle.deck.specs.declared.card.Card.{Card}
 use Rattle.deck.specs.declared.card.Card.the-variants as cases
 use Rattle.std.specs.declared.result.Result.{Result}
-use Rattle.std.specs.declared.result.Result.the-variants.{Ok, Err}
+use Rattle.std.specs.declared.result.Result.the-variants.{Ok}
 use Rattle.refusals.specs.declared.deck_fault.DeckFault.{DeckFault}
 use Rattle.deck.specs.declared.draft.Draft.{Draft}
 use Rattle.deck.specs.declared.draft.Section.the-variants.{Branches, Marks}

@@ -1,13 +1,13 @@
 -- The state between two lines, and one line more.
 use mathlib.Core.Path.{_≡_, refl, sym, ap, subst, _∙_}
 use mathlib.Core.Bool.{Bool, true, false, cond}
-use mathlib.Core.List.{List, [], _∷_, _++_, map}
-use Prim.Native.Nat.{ℕ, zero, suc, _+_, _-_, _≤_, _<_}
+use mathlib.Core.List.{List, [], _∷_, map}
+use Prim.Native.Nat.{ℕ, _+_, _-_, _≤_, _<_}
 use native.Mathlib.Omega.{arith}
 use lib.Dec.{eqb}
 use lib.ListN.{length, take, drop, getD, length-drop}
 use Rattle.std.proofs.shelf.Lists.{getD-drop}
-use Rattle.std.proofs.shelf.Tests.{eqb-true, eq-eqb, cond-true, cond-false, cases-lt}
+use Rattle.std.proofs.shelf.Tests.{eqb-true, eq-eqb, cases-lt}
 use mathlib.Core.Logic.{⊎-elim}
 use Rattle.std.specs.declared.result.Result.{Result}
 use Rattle.std.specs.declared.result.Result.the-variants.{Ok, Err}
@@ -17,10 +17,11 @@ use Rattle.refusals.specs.declared.deck_fault.DeckFault.the-variants.{Turn}
 use Rattle.refusals.specs.declared.deck_fault.DeckRefusal.{DeckRefusal}
 use Rattle.network.specs.Questions.{asked}
 use Rattle.deck.specs.Words.{lines, words}
-use Rattle.deck.specs.Cards.{Reading, cardOn, cards}
-use Rattle.deck.specs.Decks.{Entry, cardAfter, readCards, refused, endsLine, rank, lastSection, ended}
-use Rattle.deck.specs.Drafts.{Holds, Next, TakesLine, ReadTo}
+use Rattle.deck.specs.Cards.{cardOn, cards}
+use Rattle.deck.specs.Decks.{Entry, cardAfter, readCards, refused, endsLine, lastTurn, ended}
+use Rattle.deck.specs.Drafts.{rank, Holds, Next, TakesLine, ReadTo}
 use Rattle.deck.specs.declared.draft.Draft.{Draft}
+use Rattle.deck.proofs.Steps.{answer}
 use Rattle.deck.proofs.Pieces.{First, first-line}
 
 -- the draft d holds the entries of the lines before rest
@@ -42,10 +43,6 @@ pub record This (rest this : List ℕ) (k : ℕ) : Type 0 where
   pub some : 0 < length rest
   pub first : First 10 rest k
   pub is : this ≡ take k rest
-
-answer : List Entry → List Reading → ℕ → Result Entry DeckFault → Result (List Entry) DeckRefusal
-answer es ls n (Ok e) = readCards (e ∷ es) ls
-answer es ls n (Err f) = Err (refused f n)
 
 module _ (bytes rest this : List ℕ) (line k : ℕ) (d : Draft) (now : Between bytes rest line d) (t : This rest this k) where
   pub within : k < length rest
@@ -111,8 +108,8 @@ at-end bytes [] line d now e = now .left
 at-end bytes (c ∷ cs) line d now e = absurd (omega arith)
 
 module _ (bytes rest : List ℕ) (line : ℕ) (d : Draft) (now : Between bytes rest line d) (none : length rest ≡ 0) (r : Result (Unit {0}) DeckFault) (is : r ≡ asked (eqb (rank (d .section)) 4) Turn) where
-  same : r ≡ asked (eqb (rank (lastSection (now .es))) 4) Turn
-  same = is ∙ ap (λ s. asked (eqb (rank s) 4) Turn) (now .holds .section)
+  same : r ≡ asked (eqb (lastTurn (now .es)) 4) Turn
+  same = is ∙ ap (λ s. asked (eqb s 4) Turn) (now .holds .section)
 
   pub done-ok : Ok tt ≡ atLine line r → ReadTo (readCards [] (cards bytes)) (Ok d)
   done-ok e = rw (at-end bytes rest line d now none) (finish-ok _ (now .es) _ d (now .holds) (e ∙ (λ i. atLine (now .at i) (same i))))

@@ -1,6 +1,6 @@
 -- The first word of a line and the rest.
 use mathlib.Core.Path.{_≡_, refl, sym, ap, _∙_}
-use mathlib.Core.Bool.{true, false, cond}
+use mathlib.Core.Bool.{true, false}
 use mathlib.Core.List.{List, [], _∷_, _++_, append-assoc, append-nil}
 use Prim.Native.Nat.{ℕ, zero, suc, _-_, _+_, _≤_, _<_}
 use native.Mathlib.Omega.{arith}
@@ -10,7 +10,7 @@ use Rattle.std.proofs.shelf.Lists.{take-rest, take-more-set, take-all}
 use Rattle.std.specs.declared.option.Option.{Option}
 use Rattle.std.specs.declared.option.Option.the-variants.{Some, None}
 use Rattle.std.proofs.shelf.Tests.{eq-eqb, ne-eqb, eqb-true, eqb-false, cond-both}
-use Rattle.deck.specs.Words.{onto, cutAt, words, lines, numberOf, numbersIn, prefixed}
+use Rattle.deck.specs.Words.{onto, words, lines, numberOf, numbersIn, prefixed}
 use Rattle.deck.specs.Drafts.{endsWord, tailWords}
 
 -- the byte sep stands first at k, or nowhere where k is the length

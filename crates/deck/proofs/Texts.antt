@@ -1,23 +1,22 @@
 -- The cards of a written text.
-use mathlib.Core.Path.{_≡_, refl, sym, ap, subst, _∙_}
-use mathlib.Core.Bool.{Bool, true, false, cond, _&&_}
+use mathlib.Core.Path.{_≡_, refl, sym, ap, _∙_}
+use mathlib.Core.Bool.{Bool, true, false, cond}
 use mathlib.Core.List.{List, [], _∷_, _++_, append-assoc, append-nil, map}
-use Prim.Native.Nat.{ℕ, zero, suc, _-_, _+_, _^_, _≤_, _<_}
+use Prim.Native.Nat.{ℕ, suc, _-_, _+_, _^_, _≤_, _<_}
 use native.Mathlib.Omega.{arith}
-use lib.Dec.{eqb, leb}
+use lib.Dec.{eqb}
 use lib.ListN.{length, getD}
 use Rattle.std.specs.Reads.{value}
 use Rattle.std.specs.Text.{asciiDigit}
 use Rattle.std.specs.Written.{decimal}
 use Rattle.std.specs.shelf.Lists.{All}
 use Rattle.std.specs.shelf.Text.{allDigits}
-use Rattle.std.specs.declared.option.Option.the-variants.{Some, None}
+use Rattle.std.specs.declared.option.Option.the-variants.{Some}
 use Rattle.std.proofs.shelf.Decimals.{digits-decimal, value-decimal, length-decimal-le, decimal-some}
 use Rattle.std.proofs.shelf.Tests.{eq-eqb, ne-eqb, and-from, and-parts, le-leb}
 use Rattle.std.proofs.shelf.Ways.{tells}
-use Rattle.deck.specs.Words.{onto, cutAt, words, lines, numberOf, numbersIn, prefixed}
+use Rattle.deck.specs.Words.{cutAt, words, lines, numberOf, numbersIn}
 use Rattle.deck.specs.Cards.{Keyword, nodes, branch, failed, working, door, spelled, numbersFor, Reading, card, cardBy, cardOn, cards}
-use Rattle.deck.specs.Decks.{endsLine}
 use Rattle.deck.specs.Laws.{spaced, text}
 use Rattle.deck.proofs.Numbers.{own}
 use Rattle.deck.proofs.Titles.{spelled-back}

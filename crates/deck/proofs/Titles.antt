@@ -1,12 +1,12 @@
 -- The words of a line, from the word that a slice pattern found at its front.
 use mathlib.Core.Path.{_≡_, refl, sym, ap, _∙_}
 use mathlib.Core.Logic.{⊎-elim}
-use mathlib.Core.Bool.{Bool, true, false, cond, _&&_}
+use mathlib.Core.Bool.{true, false}
 use mathlib.Core.List.{List, [], _∷_, _++_}
-use Prim.Native.Nat.{ℕ, zero, suc, _+_, _≤_, _<_}
+use Prim.Native.Nat.{ℕ, zero, suc, _+_, _<_}
 use native.Mathlib.Omega.{arith}
 use lib.Dec.{eqb}
-use lib.ListN.{length, take, drop, getD, take-append-drop}
+use lib.ListN.{take, drop, getD, take-append-drop}
 use Rattle.std.proofs.shelf.Tests.{eqb-true, eqb-false, cases-bool, and-parts, cond-false, both-ways}
 use Rattle.std.specs.declared.option.Option.the-variants.{Some, None}
 use Rattle.deck.specs.Words.{words, numbersIn}

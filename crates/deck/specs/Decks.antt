@@ -1,6 +1,6 @@
 -- What a deck says: the entries of its cards, or the first refusal.
 use Prim.Native.Nat.{ℕ, zero, suc, _+_, _-_}
-use mathlib.Core.Bool.{Bool, true, false, cond, _&&_}
+use mathlib.Core.Bool.{Bool, cond, _&&_}
 use mathlib.Core.List.{List, [], _∷_, _++_}
 use lib.Dec.{eqb, leb, ltb}
 use lib.ListN.{length, getD, drop}
@@ -20,8 +20,6 @@ use Rattle.network.specs.declared.branch.Condition.{Condition}
 use Rattle.network.specs.declared.branch.Condition.the-variants.{Able, Failed, Working}
 use Rattle.deck.specs.Cards.{Keyword, nodes, branch, failed, working, door, Reading, unknown, card, cards}
 use Rattle.deck.specs.declared.reader.Deck.{Deck}
-use Rattle.deck.specs.declared.draft.Section.{Section}
-use Rattle.deck.specs.declared.draft.Section.the-variants as sections
 
 -- what a card enters: the node count and the head, a branch, a mark on branch k, a door
 pub data Entry : Type 0 where
@@ -82,31 +80,26 @@ firstDoor (branchIs b ∷ es) = firstDoor es
 firstDoor (markIs k c ∷ es) = firstDoor es
 firstDoor (doorIs d ∷ es) = cond (eqb (firstDoor es) 0) (length es + 1) (firstDoor es)
 
--- Which card may follow which: NODES first, then a BRANCH, and from then on no section goes back.
+-- The order of the cards: NODES, then BRANCH, then FAILED and WORKING, then DOOR.
 
-abbrev pub lastSection : List Entry → Section
-lastSection [] = sections.Start
-lastSection (nodesAre n h ∷ es) = sections.Nodes
-lastSection (branchIs b ∷ es) = sections.Branches
-lastSection (markIs k c ∷ es) = sections.Marks
-lastSection (doorIs d ∷ es) = sections.Doors
+abbrev pub turnOf : Keyword → ℕ
+turnOf nodes = 1
+turnOf branch = 2
+turnOf failed = 3
+turnOf working = 3
+turnOf door = 4
 
-abbrev pub sectionFor : Keyword → Section
-sectionFor nodes = sections.Nodes
-sectionFor branch = sections.Branches
-sectionFor failed = sections.Marks
-sectionFor working = sections.Marks
-sectionFor door = sections.Doors
+-- the turn of the last card, 0 before the first
+abbrev pub lastTurn : List Entry → ℕ
+lastTurn [] = 0
+lastTurn (nodesAre n h ∷ es) = 1
+lastTurn (branchIs b ∷ es) = 2
+lastTurn (markIs k c ∷ es) = 3
+lastTurn (doorIs d ∷ es) = 4
 
-abbrev pub rank : Section → ℕ
-rank sections.Start = 0
-rank sections.Nodes = 1
-rank sections.Branches = 2
-rank sections.Marks = 3
-rank sections.Doors = 4
-
-abbrev pub follows : Section → Section → Bool
-follows s t = cond (ltb (rank s) 2) (eqb (rank t) (rank s + 1)) (leb (rank s) (rank t))
+-- one NODES card first, then at least one BRANCH, and from then on no card of an earlier turn
+abbrev pub follows : ℕ → ℕ → Bool
+follows last next = cond (ltb last 2) (eqb next (last + 1)) (leb last next)
 
 -- What is asked of an entry. A fault of a layer below is kept as it is.
 
@@ -141,7 +134,7 @@ counted es make (Some ns) = entered (make ns) (entryAsked es (make ns))
 -- a card after the entries es: is its word one of the five, is it in turn, and so on
 abbrev pub cardAfter : List Entry → Reading → Result Entry DeckFault
 cardAfter es unknown = Err Word
-cardAfter es (card k ns) = cond (follows (lastSection es) (sectionFor k)) (counted es (entryOf k) ns) (Err Turn)
+cardAfter es (card k ns) = cond (follows (lastTurn es) (turnOf k)) (counted es (entryOf k) ns) (Err Turn)
 
 -- Card by card, the first refusal decides, and its line is that card's; a deck ends after a door.
 
@@ -149,7 +142,7 @@ abbrev pub refused : DeckFault → ℕ → DeckRefusal
 refused f line = record { fault = f; line = line }
 
 abbrev pub ended : List Entry → Result (List Entry) DeckRefusal
-ended es = cond (eqb (rank (lastSection es)) 4) (Ok es) (Err (refused Turn (length es + 1)))
+ended es = cond (eqb (lastTurn es) 4) (Ok es) (Err (refused Turn (length es + 1)))
 
 abbrev pub readCards : List Entry → List Reading → Result (List Entry) DeckRefusal
 readCards es [] = ended es

@@ -6,7 +6,7 @@ use lib.ListN.{getD}
 use Rattle.std.specs.Options.{Cases}
 use Rattle.std.specs.declared.option.Option.{Option}
 use Rattle.std.specs.declared.option.Option.the-variants.{Some, None}
-use Rattle.deck.specs.Cards.{Keyword, nodes, branch, failed, working, door, Reading, unknown, card}
+use Rattle.deck.specs.Cards.{nodes, branch, failed, working, door, Reading, unknown, card}
 use Rattle.deck.specs.Decks.{Entry, nodesAre, branchIs, markIs, doorIs}
 
 -- the door of a card
@@ -36,6 +36,6 @@ doorsOf (branchIs b ∷ es) = doorsOf es
 doorsOf (markIs k c ∷ es) = doorsOf es
 doorsOf (doorIs d ∷ es) = doorsOf es ++ d ∷ []
 
--- the answer is the first of the doors ds, and rest are those after it; no answer where there are none
+-- the answer is the first of the doors ds, and rest are those after it; no answer where there are none, then or later
 abbrev pub NextDoor : List ℕ → Option ℕ → List ℕ → Type 0
-NextDoor ds answer rest = Cases answer (ds ≡ []) (λ d. ds ≡ d ∷ rest)
+NextDoor ds answer rest = Cases answer ((ds ≡ []) × (rest ≡ [])) (λ d. ds ≡ d ∷ rest)

@@ -1,6 +1,6 @@
 -- The reader's inner bookkeeping: how it stands between two bytes, two words and two lines. Only private contracts cite it,
 -- so what a deck means can be read without it.
-use Prim.Native.Nat.{ℕ, zero, suc, _+_, _≤_}
+use Prim.Native.Nat.{ℕ, suc, _+_, _≤_}
 use mathlib.Core.Path.{_≡_}
 use mathlib.Core.Bool.{Bool, true, cond}
 use mathlib.Core.List.{List, [], _∷_, _++_}
@@ -20,11 +20,12 @@ use Rattle.network.specs.declared.branch.Condition.{Condition}
 use Rattle.deck.specs.Words.{words, numbersIn, prefixed}
 use Rattle.deck.specs.Cards.{Keyword, nodes, branch, failed, working, door, spelled, numbersFor, cardOn}
 use Rattle.deck.specs.Cards as cards
-use Rattle.deck.specs.Decks.{Entry, markIs, lastSection, nodesIn, headIn, branchesIn, firstDoor, follows, counted, cardAfter}
+use Rattle.deck.specs.Decks.{Entry, markIs, lastTurn, nodesIn, headIn, branchesIn, firstDoor, follows, counted, cardAfter}
 use Rattle.deck.specs.declared.card.Card.{Card}
 use Rattle.deck.specs.declared.card.Card.the-variants as cases
 use Rattle.deck.specs.declared.draft.Draft.{Draft}
-use Rattle.deck.specs.declared.draft.Section.the-variants.{Marks}
+use Rattle.deck.specs.declared.draft.Section.{Section}
+use Rattle.deck.specs.declared.draft.Section.the-variants as sections
 use Rattle.deck.specs.declared.reader.Deck.{Deck}
 
 -- Words: what is left of a line begins at the space after a word, or is empty.
@@ -86,8 +87,16 @@ Untitled bs = (k : Keyword) → Lacks k bs
 
 -- Drafts: how a draft stands for the entries so far.
 
+-- the turn of a section
+abbrev pub rank : Section → ℕ
+rank sections.Start = 0
+rank sections.Nodes = 1
+rank sections.Branches = 2
+rank sections.Marks = 3
+rank sections.Doors = 4
+
 pub record Holds (d : Draft) (es : List Entry) : Type 0 where
-  pub section : d .section ≡ lastSection es
+  pub section : rank (d .section) ≡ lastTurn es
   pub nodes : d .nodes ≡ nodesIn es
   pub head : d .head ≡ headIn es
   pub count : d .count ≡ length (branchesIn es)
@@ -114,7 +123,7 @@ TakesLine before line bs r after = (es : List Entry) → Holds before es → lin
 
 -- a mark on the next line: the cards FAILED and WORKING are cases of it
 abbrev pub markAfter : List Entry → Condition → List (List ℕ) → Result Entry DeckFault
-markAfter es c ws = cond (follows (lastSection es) Marks) (counted es (λ ns. markIs (getD ns 0 0) c) (numbersIn 1 ws)) (Err Turn)
+markAfter es c ws = cond (follows (lastTurn es) 3) (counted es (λ ns. markIs (getD ns 0 0) c) (numbersIn 1 ws)) (Err Turn)
 
 abbrev pub TakesMark : Draft → Condition → ℕ → List (List ℕ) → Answer DeckFault → Draft → Type 0
 TakesMark before c line ws r after = (es : List Entry) → Holds before es → line ≡ length es + 1 → Next es (markAfter es c ws) r after

@@ -2,19 +2,20 @@
 use Prim.Native.Nat.{ℕ, _+_, _^_, _≤_, _<_}
 use mathlib.Core.Path.{_≡_}
 use mathlib.Core.List.{List, [], _∷_, _++_, map}
-use lib.ListN.{length, drop}
+use lib.ListN.{length, take, drop}
 use Rattle.std.specs.Finite.{nth}
 use Rattle.std.specs.Written.{decimal}
 use Rattle.std.specs.shelf.Lists.{All}
 use Rattle.std.specs.declared.option.Option.the-variants.{Some}
 use Rattle.std.specs.declared.result.Result.{Result}
-use Rattle.std.specs.declared.result.Result.the-variants.{Ok}
+use Rattle.std.specs.declared.result.Result.the-variants.{Ok, Err}
 use Rattle.refusals.specs.declared.deck_fault.DeckRefusal.{DeckRefusal}
 use Rattle.network.specs.declared.branch.TableRow.{TableRow}
 use Rattle.network.specs.declared.branch.Condition.{Condition}
 use Rattle.network.specs.declared.branch.Condition.the-variants.{Able, Failed, Working}
 use Rattle.deck.specs.Cards.{Keyword, nodes, branch, failed, working, door, spelled, cards}
-use Rattle.deck.specs.Decks.{withCondition, marked}
+use Rattle.deck.specs.Decks.{Entry, withCondition, marked, bytesAsked, readBytes, deckRead, tableAfter}
+use Rattle.deck.specs.Doorways.{doorsIn, doorsOf}
 use Rattle.deck.specs.declared.reader.Deck.{Deck}
 
 -- a network with its head, its marks in their order (branch and condition) and its doors
@@ -113,3 +114,20 @@ pub record ComesBack (plan : Plan) (table : List TableRow) (answer : Result Deck
 -- the bytes are cards of a plan, as it is written or with zeros in front of its numbers
 abbrev pub Describes : List ℕ → Plan → Type 0
 Describes bs plan = cards bs ≡ cards (written plan)
+
+-- what read_deck promises of the bytes, the table before, the answer and the table after
+pub record DeckLaws (bs : List ℕ) (table : List TableRow) (answer : Result Deck DeckRefusal) (after : List TableRow) : Type 0 where
+  pub written-decks-come-back : (plan : Plan) → Sound plan → bs ≡ written plan → length bs ≤ 65536 → 64 ≤ length table → ComesBack plan table answer after
+  pub so-do-decks-with-their-cards : (plan : Plan) → Sound plan → Describes bs plan → bytesAsked (length table) bs ≡ Ok tt → ComesBack plan table answer after
+  pub nothing-else-is-accepted : (deck : Deck) → answer ≡ Ok deck → (plan : Plan) × Sound plan × Describes bs plan
+  pub same-cards-same-answer : (others : List ℕ) → cards others ≡ cards bs → bytesAsked (length table) others ≡ bytesAsked (length table) bs
+      → (answer ≡ deckRead (readBytes (length table) others)) × (after ≡ tableAfter (readBytes (length table) others) table)
+  pub the-lines-up-to-a-refusal-decide : (refusal : DeckRefusal) → answer ≡ Err refusal → (others : List ℕ) → bytesAsked (length table) others ≡ bytesAsked (length table) bs
+      → take (refusal .line) (cards others) ≡ take (refusal .line) (cards bs) → answer ≡ deckRead (readBytes (length table) others)
+  pub a-refusal-leaves-the-table : (refusal : DeckRefusal) → answer ≡ Err refusal → after ≡ table
+
+-- what Doors::new promises of the bytes: the doors that next_door will give
+pub record DoorLaws (bs : List ℕ) : Type 0 where
+  pub doors-of-an-accepted-deck : (places : ℕ) (es : List Entry) → readBytes places bs ≡ Ok es → doorsIn (cards bs) ≡ doorsOf es
+  pub doors-of-a-written-plan : (plan : Plan) → Sound plan → bs ≡ written plan → doorsIn (cards bs) ≡ plan .doors
+  pub doors-of-its-cards : (plan : Plan) → Sound plan → Describes bs plan → doorsIn (cards bs) ≡ plan .doors

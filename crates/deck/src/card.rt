@@ -1,5 +1,4 @@
 // The card of a line, by its first word; its numbers stay in the bytes of the deck.
-ghost use Prim.Native.Nat.{ℕ};
 ghost use mathlib.Core.Path.{_≡_};
 ghost use Rattle.std.specs.Results.{Cases};
 ghost use Rattle.refusals.specs.declared.deck_fault.DeckFault.the-variants.{Word};

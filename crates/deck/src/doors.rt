@@ -1,13 +1,10 @@
 // The doors of a deck, one after the other.
-ghost use Prim.Native.Nat.{ℕ};
 ghost use mathlib.Core.Path.{_≡_};
-ghost use mathlib.Core.List.{List};
 ghost use lib.ListN.{drop};
-ghost use Rattle.std.specs.declared.result.Result.the-variants.{Ok};
 ghost use Rattle.deck.specs.Words.{words};
 ghost use Rattle.deck.specs.Cards.{cardOn, cards};
-ghost use Rattle.deck.specs.Decks.{Entry, readBytes};
-ghost use Rattle.deck.specs.Doorways.{doorOn, doorsIn, doorsOf, NextDoor};
+ghost use Rattle.deck.specs.Laws.{DoorLaws};
+ghost use Rattle.deck.specs.Doorways.{doorOn, doorsIn, NextDoor};
 use crate::card::Card;
 use crate::card::card_of;
 use crate::words::find;
@@ -49,10 +46,10 @@ fn tail(bytes: &[u8]) -> &[u8]
 }
 
 impl<'a> Doors<'a> {
-    // The doors of a deck; those of an accepted deck are those of its entries.
+    // The doors of a deck, from the first on: those of its entries if it is accepted, so those of its plan.
     pub fn new(bytes: &'a [u8]) -> Doors<'a>
         ensures whole { λ r. ⌜ now (r .rest) ≡ now (bytes .entry) ⌝ }
-        ensures agrees { λ _. ⌜ ((places : ℕ) (es : List Entry) → readBytes places (now (bytes .entry)) ≡ Ok es → doorsIn (cards (now (bytes .entry))) ≡ doorsOf es) ⌝ }
+        ensures laws { λ _. ⌜ DoorLaws (now (bytes .entry)) ⌝ }
     {
         Doors { rest: bytes }
     }

@@ -1,5 +1,5 @@
 // A deck as it is read, card by card.
-ghost use Prim.Native.Nat.{ℕ, _≤_};
+ghost use Prim.Native.Nat.{_≤_};
 ghost use mathlib.Core.Path.{_≡_};
 ghost use mathlib.Core.Bool.{true};
 ghost use mathlib.Core.List.{[], _++_};
@@ -8,8 +8,8 @@ ghost use lib.ListN.{length, take, drop};
 ghost use Rattle.network.specs.Questions.{asked};
 ghost use Rattle.refusals.specs.declared.deck_fault.DeckFault.the-variants.{Turn};
 ghost use Rattle.deck.specs.Cards.{nodes as nodesWord, branch as branchWord, door as doorWord};
-ghost use Rattle.deck.specs.Decks.{follows, rank, planAsked};
-ghost use Rattle.deck.specs.Drafts.{endsWord, tailWords, keywordOf, numbersOf, lineOf, Holds, Takes, TakesMark, heldDeck};
+ghost use Rattle.deck.specs.Decks.{follows, planAsked};
+ghost use Rattle.deck.specs.Drafts.{endsWord, tailWords, keywordOf, numbersOf, lineOf, rank, Holds, Takes, TakesMark, heldDeck};
 use crate::card::Card;
 use crate::reader::Deck;
 use crate::words::numbers;
@@ -37,7 +37,7 @@ pub(crate) enum Section {
 
 impl Section {
     fn may_precede(self, next: Section) -> bool
-        ensures { λ r. ⌜ r ≡ follows self next ⌝ }
+        ensures { λ r. ⌜ r ≡ follows (rank self) (rank next) ⌝ }
     {
         match self {
             Section::Start => matches!(next, Section::Nodes),

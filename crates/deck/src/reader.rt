@@ -1,11 +1,12 @@
 // Reading a whole deck into a caller's table.
-ghost use Prim.Native.Nat.{ℕ, _≤_};
+ghost use Prim.Native.Nat.{_≤_};
 ghost use mathlib.Core.Path.{_≡_};
 ghost use mathlib.Core.Bool.{true};
 ghost use mathlib.Core.List.{[]};
 ghost use lib.ListN.{length};
 ghost use Rattle.deck.specs.Cards.{cards};
 ghost use Rattle.deck.specs.Decks.{readCards, readBytes, endsLine, deckRead, tableAfter, bytesAsked};
+ghost use Rattle.deck.specs.Laws.{DeckLaws};
 ghost use Rattle.deck.specs.Drafts.{ReadTo, TakesLine};
 use crate::card::card_of;
 use crate::draft::Draft;
@@ -64,10 +65,13 @@ fn check_bytes(bytes: &[u8], places: usize) -> Result<(), DeckFault>
     }
 }
 
-// Reads a deck. Its branches are written into the table once the deck is accepted, and later places stay; a refusal leaves the table as it was.
+// Reads a deck. Its branches are written into the table once the deck is accepted, and later places stay; a refusal leaves
+// the table as it was. The deck of a plan gives the plan back, nothing else is accepted, and decks with the same cards are
+// answered alike.
 pub fn read_deck(bytes: &[u8], table: &mut [TableRow]) -> Result<Deck, DeckRefusal>
     ensures answer { λ r. ⌜ r ≡ deckRead (readBytes (length (now (table .entry))) (now (bytes .entry))) ⌝ }
-    ensures table { λ _. ⌜ now (table .exit) ≡ tableAfter (readBytes (length (now (table .entry))) (now (bytes .entry))) (now (table .entry)) ⌝ }
+    ensures filled { λ _. ⌜ now (table .exit) ≡ tableAfter (readBytes (length (now (table .entry))) (now (bytes .entry))) (now (table .entry)) ⌝ }
+    ensures laws { λ r. ⌜ DeckLaws (now (bytes .entry)) (now (table .entry)) r (now (table .exit)) ⌝ }
 {
     at_line(check_bytes(bytes, table.len()), 0)?;
     let draft = read_lines(bytes)?;

@@ -1,12 +1,9 @@
-use borrow.Author.Needs.{needs}
 use borrow.Author.Tests.{true-eqb, false-eqb}
 use native.Mathlib.Omega.{arith}
-use mathlib.Core.Path.{refl, sym, ap, subst, _∙_}
-use lib.ListN.{length}
+use mathlib.Core.Path.{_∙_}
 use Rattle.std.proofs.shelf.Lists.{take-rest, drop-drop}
 use Rattle.std.proofs.shelf.Results.{err-from-errBy}
-use Rattle.deck.proofs.Pieces.{First}
-use Rattle.deck.proofs.Lines.{Between, This, line-err, line-ok, done-ok, done-err}
+use Rattle.deck.proofs.Lines.{This, line-err, line-ok, done-ok, done-err}
 use Rattle.deck.proofs.reader.read_lines.Needs as need
 use Rattle.deck.proofs.reader.read_lines.Needs.{After-read-line}
 

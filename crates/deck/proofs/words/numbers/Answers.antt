@@ -1,6 +1,4 @@
-use borrow.Author.Needs.{needs}
-use native.Mathlib.Omega.{arith}
-use mathlib.Core.Path.{refl, sym, ap, _∙_}
+use mathlib.Core.Path.{sym, _∙_}
 use lib.ListN.{length-set, length-replicate}
 use Rattle.deck.specs.Drafts.{tailWords}
 use Rattle.deck.proofs.Pieces.{number-more, number-lacks, numbers-start, numbers-end, numbers-over}
