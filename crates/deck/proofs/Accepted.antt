@@ -21,9 +21,9 @@ use Rattle.network.specs.declared.branch.TableRow.{TableRow}
 use Rattle.network.specs.declared.branch.Condition.{Condition}
 use Rattle.network.specs.Questions.{Answer, asked, andThen, nodesAsked, countAsked, rowAsked, rowsAsked, headAsked, listAsked}
 use Rattle.deck.specs.Cards.{Keyword, nodes, branch, failed, working, door, Reading, unknown, card, cards}
-use Rattle.deck.specs.Decks.{Entry, nodesAre, branchIs, markIs, doorIs, entryOf, nodesIn, headIn, branchesIn, marked, lastSection, rank, follows, sectionFor, toStudy, toDeck, planAsked, entryAsked, entered, counted, cardAfter, ended, refused, readCards, readBytes, readIf, bytesAsked}
+use Rattle.deck.specs.Decks.{Entry, nodesAre, branchIs, markIs, doorIs, entryOf, nodesIn, headIn, branchesIn, marked, lastTurn, follows, turnOf, toStudy, toDeck, planAsked, entryAsked, entered, counted, cardAfter, ended, refused, readCards, readBytes, readIf, bytesAsked}
 use Rattle.deck.proofs.Drafts.{length-marked}
-use Rattle.deck.proofs.Doorways.{from-turn, from-entered}
+use Rattle.deck.proofs.Steps.{from-turn, from-entered}
 
 -- answers that were yes
 
@@ -64,39 +64,39 @@ rows-marked n j (suc k) c (row ∷ rows) = ap (andThen (rowAsked n j row)) (rows
 record Sofar (es : List Entry) : Type 0 where
   rows : rowsAsked (nodesIn es) 0 (branchesIn es) ≡ Ok tt
   few : length (branchesIn es) ≤ 64
-  counted-nodes : 1 ≤ rank (lastSection es) → nodesAsked (nodesIn es) ≡ Ok tt
-  some : 2 ≤ rank (lastSection es) → 1 ≤ length (branchesIn es)
+  counted-nodes : 1 ≤ lastTurn es → nodesAsked (nodesIn es) ≡ Ok tt
+  some : 2 ≤ lastTurn es → 1 ≤ length (branchesIn es)
 
 -- nothing stands before NODES
-first-nodes : (es : List Entry) (n h : ℕ) → follows (lastSection es) (lastSection (nodesAre n h ∷ es)) ≡ true → es ≡ []
+first-nodes : (es : List Entry) (n h : ℕ) → follows (lastTurn es) (lastTurn (nodesAre n h ∷ es)) ≡ true → es ≡ []
 first-nodes [] n h e = refl
 first-nodes (nodesAre m i ∷ es) n h e = absurd (false≢true e)
 first-nodes (branchIs b ∷ es) n h e = absurd (false≢true e)
 first-nodes (markIs k c ∷ es) n h e = absurd (false≢true e)
 first-nodes (doorIs d ∷ es) n h e = absurd (false≢true e)
 
-branch-after : (es : List Entry) (b : TableRow) → follows (lastSection es) (lastSection (branchIs b ∷ es)) ≡ true → 1 ≤ rank (lastSection es)
+branch-after : (es : List Entry) (b : TableRow) → follows (lastTurn es) (lastTurn (branchIs b ∷ es)) ≡ true → 1 ≤ lastTurn es
 branch-after [] b e = absurd (false≢true e)
 branch-after (nodesAre m i ∷ es) b e = omega arith
 branch-after (branchIs x ∷ es) b e = omega arith
 branch-after (markIs k c ∷ es) b e = omega arith
 branch-after (doorIs d ∷ es) b e = omega arith
 
-mark-after : (es : List Entry) (k : ℕ) (c : Condition) → follows (lastSection es) (lastSection (markIs k c ∷ es)) ≡ true → 2 ≤ rank (lastSection es)
+mark-after : (es : List Entry) (k : ℕ) (c : Condition) → follows (lastTurn es) (lastTurn (markIs k c ∷ es)) ≡ true → 2 ≤ lastTurn es
 mark-after [] k c e = absurd (false≢true e)
 mark-after (nodesAre m i ∷ es) k c e = absurd (false≢true e)
 mark-after (branchIs x ∷ es) k c e = omega arith
 mark-after (markIs j d ∷ es) k c e = omega arith
 mark-after (doorIs d ∷ es) k c e = omega arith
 
-door-after : (es : List Entry) (d : ℕ) → follows (lastSection es) (lastSection (doorIs d ∷ es)) ≡ true → 2 ≤ rank (lastSection es)
+door-after : (es : List Entry) (d : ℕ) → follows (lastTurn es) (lastTurn (doorIs d ∷ es)) ≡ true → 2 ≤ lastTurn es
 door-after [] d e = absurd (false≢true e)
 door-after (nodesAre m i ∷ es) d e = absurd (false≢true e)
 door-after (branchIs x ∷ es) d e = omega arith
 door-after (markIs j c ∷ es) d e = omega arith
 door-after (doorIs x ∷ es) d e = omega arith
 
-one-more : (es : List Entry) (e : Entry) → Sofar es → follows (lastSection es) (lastSection (e ∷ es)) ≡ true → entryAsked es e ≡ Ok tt → Sofar (e ∷ es)
+one-more : (es : List Entry) (e : Entry) → Sofar es → follows (lastTurn es) (lastTurn (e ∷ es)) ≡ true → entryAsked es e ≡ Ok tt → Sofar (e ∷ es)
 one-more es (nodesAre n h) so turn yes′ =
     let none = first-nodes es n h turn in
     let p = both-yes (toStudy (nodesAsked n)) (headAsked n h) (deck-yes _ yes′) in
@@ -129,33 +129,33 @@ one-more es (doorIs d) so turn yes′ =
     let two = door-after es d turn in
     record { rows = so .rows; few = so .few; counted-nodes = λ _. so .counted-nodes (omega arith); some = λ _. so .some two }
 
--- the section of a card's entry is the card's
-same-section : (es : List Entry) (k : Keyword) (ns : List ℕ) → lastSection (entryOf k ns ∷ es) ≡ sectionFor k
-same-section es nodes ns = refl
-same-section es branch ns = refl
-same-section es failed ns = refl
-same-section es working ns = refl
-same-section es door ns = refl
+-- the turn of a card's entry is the card's
+same-turn : (es : List Entry) (k : Keyword) (ns : List ℕ) → lastTurn (entryOf k ns ∷ es) ≡ turnOf k
+same-turn es nodes ns = refl
+same-turn es branch ns = refl
+same-turn es failed ns = refl
+same-turn es working ns = refl
+same-turn es door ns = refl
 
 card-more : (es : List Entry) (c : Reading) (e : Entry) → Sofar es → cardAfter es c ≡ Ok e → Sofar (e ∷ es)
 card-more es unknown e so h = let z : _≡_ {A = ℕ} 0 1 = cc in absurd (omega arith)
 card-more es (card k None) e so h =
-    let p = from-turn (follows (lastSection es) (sectionFor k)) (Err Numbers) Turn e h .1 in let z : _≡_ {A = ℕ} 0 1 = cc in absurd (omega arith)
+    let p = from-turn (follows (lastTurn es) (turnOf k)) (Err Numbers) Turn e h .1 in let z : _≡_ {A = ℕ} 0 1 = cc in absurd (omega arith)
 card-more es (card k (Some ns)) e so h =
-    let p = from-turn (follows (lastSection es) (sectionFor k)) _ _ e h in
+    let p = from-turn (follows (lastTurn es) (turnOf k)) _ _ e h in
     let q = from-entered (entryOf k ns) (entryAsked es (entryOf k ns)) e (p .1) in
-    subst (λ x. Sofar (x ∷ es)) (q .0) (one-more es (entryOf k ns) so (ap (follows (lastSection es)) (same-section es k ns) ∙ p .0) (q .1))
+    subst (λ x. Sofar (x ∷ es)) (q .0) (one-more es (entryOf k ns) so (ap (follows (lastTurn es)) (same-turn es k ns) ∙ p .0) (q .1))
 
 abbrev Taken : List Entry → Type 0
 Taken es = listAsked (nodesIn es) (branchesIn es) ≡ Ok tt
 
-whole : (es : List Entry) → Sofar es → rank (lastSection es) ≡ 4 → Taken es
+whole : (es : List Entry) → Sofar es → lastTurn es ≡ 4 → Taken es
 whole es so four =
     let some = so .some (omega arith) in
     yes-both _ _ (so .counted-nodes (omega arith))
     (yes-both _ _ (cond-true _ _ _ (and-from _ _ (le-leb 1 (length (branchesIn es)) some) (le-leb (length (branchesIn es)) 64 (so .few)))) (so .rows))
 
-at-end : (es fs : List Entry) (refusal : DeckRefusal) → Sofar es → (b : Bool) → eqb (rank (lastSection es)) 4 ≡ b → cond b (Ok es) (Err refusal) ≡ Ok fs → Taken fs
+at-end : (es fs : List Entry) (refusal : DeckRefusal) → Sofar es → (b : Bool) → eqb (lastTurn es) 4 ≡ b → cond b (Ok es) (Err refusal) ≡ Ok fs → Taken fs
 at-end es fs refusal so true p h = let q : es ≡ fs = cc in subst Taken q (whole es so (eqb-true _ _ p))
 at-end es fs refusal so false p h = let z : _≡_ {A = ℕ} 0 1 = cc in absurd (omega arith)
 
@@ -171,7 +171,7 @@ step c cs rest es fs so (Err f) p h = let z : _≡_ {A = ℕ} 0 1 = cc in absurd
 
 cards-taken : (cs : List Reading) (es fs : List Entry) → Sofar es → readCards es cs ≡ Ok fs → Taken fs
 unfolding after
-cards-taken [] es fs so h = at-end es fs _ so (eqb (rank (lastSection es)) 4) refl h
+cards-taken [] es fs so h = at-end es fs _ so (eqb (lastTurn es) 4) refl h
 cards-taken (c ∷ cs) es fs so h = step c cs (cards-taken cs) es fs so (cardAfter es c) refl h
 
 nothing : Sofar []

@@ -24,6 +24,7 @@ use Rattle.deck.proofs.Marks.{length-applied, unmarked-stays, last-holds}
 use Rattle.deck.proofs.Plans.{plan-back, plan-writable, shown-parts}
 use Rattle.deck.proofs.Decided.{up-to-the-line, table-kept}
 use Rattle.deck.proofs.Only.{some-plan}
+use Rattle.deck.proofs.Accepted.{accepted-is-taken}
 
 -- the cards of a sound plan's text
 written-cards : (plan : Plan) → Sound plan → cards (written plan) ≡ map shown (planCards plan)
@@ -102,6 +103,7 @@ deck-laws bs table answer after a t = record {
   written-decks-come-back = λ plan s is short room. comes-back plan s bs table (ap cards is) (written-asked plan bs (length table) is short room) answer after a t;
   so-do-decks-with-their-cards = λ plan s is asks. comes-back plan s bs table is asks answer after a t;
   nothing-else-is-accepted = λ deck is. only-plans bs (length table) deck (sym a ∙ is);
+  a-list-takes-its-branches = accepted-is-taken bs (length table);
   same-cards-same-answer = λ others e asks.
       let same = same-cards bs others (length table) e asks in
       (a ∙ ap deckRead same, t ∙ ap (λ r. tableAfter r table) same);

@@ -13,8 +13,9 @@ use Rattle.refusals.specs.declared.deck_fault.DeckRefusal.{DeckRefusal}
 use Rattle.network.specs.declared.branch.TableRow.{TableRow}
 use Rattle.network.specs.declared.branch.Condition.{Condition}
 use Rattle.network.specs.declared.branch.Condition.the-variants.{Able, Failed, Working}
+use Rattle.network.specs.Questions.{listAsked}
 use Rattle.deck.specs.Cards.{Keyword, nodes, branch, failed, working, door, spelled, cards}
-use Rattle.deck.specs.Decks.{Entry, withCondition, marked, bytesAsked, readBytes, deckRead, tableAfter}
+use Rattle.deck.specs.Decks.{Entry, nodesIn, branchesIn, withCondition, marked, bytesAsked, readBytes, deckRead, tableAfter}
 use Rattle.deck.specs.Doorways.{doorsIn, doorsOf}
 use Rattle.deck.specs.declared.reader.Deck.{Deck}
 
@@ -120,6 +121,7 @@ pub record DeckLaws (bs : List ℕ) (table : List TableRow) (answer : Result Dec
   pub written-decks-come-back : (plan : Plan) → Sound plan → bs ≡ written plan → length bs ≤ 65536 → 64 ≤ length table → ComesBack plan table answer after
   pub so-do-decks-with-their-cards : (plan : Plan) → Sound plan → Describes bs plan → bytesAsked (length table) bs ≡ Ok tt → ComesBack plan table answer after
   pub nothing-else-is-accepted : (deck : Deck) → answer ≡ Ok deck → (plan : Plan) × Sound plan × Describes bs plan
+  pub a-list-takes-its-branches : (es : List Entry) → readBytes (length table) bs ≡ Ok es → listAsked (nodesIn es) (branchesIn es) ≡ Ok tt
   pub same-cards-same-answer : (others : List ℕ) → cards others ≡ cards bs → bytesAsked (length table) others ≡ bytesAsked (length table) bs
       → (answer ≡ deckRead (readBytes (length table) others)) × (after ≡ tableAfter (readBytes (length table) others) table)
   pub the-lines-up-to-a-refusal-decide : (refusal : DeckRefusal) → answer ≡ Err refusal → (others : List ℕ) → bytesAsked (length table) others ≡ bytesAsked (length table) bs
