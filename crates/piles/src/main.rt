@@ -1,5 +1,13 @@
 // Piles of networks, told branch by branch. Each line of standard input is a case: the nodes and branches of a first and a
 // second list, the node at which they are joined, the branch of the joint that is out, and the branch that is sure.
+ghost use Prim.Native.Nat.{ℕ, _<_, _≤_, max};
+ghost use mathlib.Core.Path.{_≡_};
+ghost use mathlib.Core.Bool.{cond};
+ghost use mathlib.Core.List.{[]};
+ghost use lib.ListN.{getD};
+ghost use Rattle.std.specs.Results.{isOk};
+ghost use Rattle.network.specs.Questions.{listAsked};
+ghost use Rattle.piles.specs.Rows.{rowOf};
 use layers::joint::Joint;
 use layers::joint::JointNetwork;
 use layers::joint::JointRatedNetwork;
@@ -27,24 +35,36 @@ use std::io::BufReader;
 const PLACES: usize = 70;
 
 // Row k lies between nodes k and 7 k + 3, counted round.
-fn rows(nodes: u32, mantissa: u32, exponent: u32) -> [TableRow; PLACES] {
+fn row(nodes: u32, k: u32, mantissa: u32, exponent: u32) -> TableRow
+    requires { ⌜ 0 < nodes ⌝ ∗ ⌜ k < 70 ⌝ ∗ ⌜ mantissa ≤ 1000000 ⌝ }
+    ensures { λ r. ⌜ r ≡ rowOf nodes k mantissa exponent ⌝ }
+{
+    TableRow {
+        from: k % nodes,
+        to: (7 * k + 3) % nodes,
+        mantissa: mantissa + k,
+        exponent,
+        condition: Condition::Able,
+    }
+}
+
+// The rows of a list, as many as a table has places.
+fn rows(nodes: u32, mantissa: u32, exponent: u32) -> [TableRow; PLACES]
+    requires { ⌜ mantissa ≤ 1000000 ⌝ }
+    ensures { λ r. ⌜ ((k : ℕ) (d : TableRow) → k < 70 → getD r k d ≡ rowOf (max nodes 1) k mantissa exponent) ⌝ }
+{
     let mut table = [TableRow::BLANK; PLACES];
     let round = nodes.max(1);
     for place in 0..PLACES {
-        let k = place as u32;
-        table[place] = TableRow {
-            from: k % round,
-            to: (7 * k + 3) % round,
-            mantissa: mantissa.saturating_add(k),
-            exponent,
-            condition: Condition::Able,
-        };
+        table[place] = row(round, place as u32, mantissa, exponent);
     }
     table
 }
 
 // The list of these rows; where they are refused, the empty network that it was at first.
-fn listed<'a>(nodes: u32, rows: &'a [TableRow]) -> List<'a> {
+fn listed<'a>(nodes: u32, rows: &'a [TableRow]) -> List<'a>
+    ensures { λ r. ⌜ r .nodes ≡ cond (isOk (listAsked nodes (now (rows .entry)))) nodes 0 ⌝ ∗ ⌜ now (r .table) ≡ cond (isOk (listAsked nodes (now (rows .entry)))) (now (rows .entry)) [] ⌝ }
+{
     let mut list = List::new();
     let _ = list.fill(nodes, rows);
     list
