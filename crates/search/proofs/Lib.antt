@@ -1,0 +1,12 @@
+pub mod Singles
+pub mod Chains
+pub mod Spread
+pub mod Links
+pub mod Beside
+pub mod Sides
+pub mod Cuts
+pub mod Complete
+pub mod Shares
+pub mod Sound
+pub mod Portions
+pub mod Doors
