@@ -1,3 +1,4 @@
 pub mod Cuts
 pub mod Search
 pub mod Statement
+pub mod Cases

@@ -1,5 +1,6 @@
 // What is proved of the search: each contract below is a theorem.
 ghost use Rattle.search.specs.Statement.{Search-sound, Closure-closes, Linked-tells, Larger-cuts, Run-keeps, Run-adds, Run-counts, Either-end, Neighbours-suffice, Vectors-tell, Lowest-door};
+ghost use Rattle.search.specs.Cases.{Worked};
 
 // After any number of tries, the rows are distinct minimal cuts, all of them once the search is finished, and the tries are few.
 pub fn search_is_sound() -> u8
@@ -32,6 +33,13 @@ pub fn search_laws_hold() -> u8
 pub fn doors_share_cuts() -> u8
     ensures vectors { λ _. ⌜ Vectors-tell ⌝ }
     ensures lowest { λ _. ⌜ Lowest-door ⌝ }
+{
+    0
+}
+
+// Six small networks, searched to the end.
+pub fn worked_cases_hold() -> u8
+    ensures { λ _. ⌜ Worked ⌝ }
 {
     0
 }
