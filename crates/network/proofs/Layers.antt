@@ -48,15 +48,12 @@ joined-joint j p q = record {
   nodes-are-counted-once = λ f. rw (cond-true _ _ _ (fits-when j p q f)) refl;
   every-branch-is-there = λ f. rw (cond-true _ _ _ (fits-when j p q f)) (simp (length-append, length-map));
   branches-of-the-first-stay = λ f k h. rw (cond-true _ _ _ (fits-when j p q f)) (nth-append-left (p .branches) _ k h);
-  branches-of-the-second-follow = λ f k b e. (
-    moved (p .nodes) j b,
-    rw (cond-true _ _ _ (fits-when j p q f)) (nth-append-add (p .branches) _ k ∙ nth-map (moved (p .nodes) j) (q .branches) k ∙ ap (mapped (moved (p .nodes) j)) e),
-    record { from = renumbered (p .nodes) j (b .from); to = renumbered (p .nodes) j (b .to); condition = refl },
-  );
+  branches-of-the-second-follow = λ f k b e. (moved (p .nodes) j b,
+      rw (cond-true _ _ _ (fits-when j p q f)) (nth-append-add (p .branches) _ k ∙ nth-map (moved (p .nodes) j) (q .branches) k ∙ ap (mapped (moved (p .nodes) j)) e),
+      record { from = renumbered (p .nodes) j (b .from); to = renumbered (p .nodes) j (b .to); condition = refl });
   else-it-is-empty = λ none. ⊎-elim (λ t. absurd (none (joinable-when j p q t))) (λ t. cond-false _ _ _ t) (cases-bool (jointFits j p q));
   ratings-are-carried-along = λ r s er es each f k.
-      let fits : jointFits j (r .plain) (s .plain) ≡ true = rw (er, es) (fits-when j p q f) in (
-        λ h. rw (cond-true _ _ _ fits) (nth-append-left (r .ratings) (s .ratings) k (omega arith)),
-        rw (cond-true _ _ _ fits) (rw (sym each) (nth-append-add (r .ratings) (s .ratings) k)),
-      );
+      let fits : jointFits j (r .plain) (s .plain) ≡ true = rw (er, es) (fits-when j p q f) in
+      (λ h. rw (cond-true _ _ _ fits) (nth-append-left (r .ratings) (s .ratings) k (omega arith)),
+       rw (cond-true _ _ _ fits) (rw (sym each) (nth-append-add (r .ratings) (s .ratings) k)));
 }

@@ -73,10 +73,6 @@ pub impl RatedNetwork for Ring as RingRatedNetwork {
     ghost legal = { λ s. legal-ringRated (s .nodes) (s .rating) (s .few) };
 
     fn rating(&self, k: u32) -> Option<Rating> {
-        if k < self.nodes {
-            Some(self.rating)
-        } else {
-            None
-        }
+        if k < self.nodes { Some(self.rating) } else { None }
     }
 }

@@ -93,10 +93,7 @@ pub impl fmt::Display for DeckRefusal as DeckRefusalDisplay {
         let layer = told.layer;
         let place = told.place;
         let line = self.line;
-        write!(
-            f,
-            "DECK REFUSED {number} LAYER {layer} PLACE {place} LINE {line}"
-        )
+        write!(f, "DECK REFUSED {number} LAYER {layer} PLACE {place} LINE {line}")
     }
 }
 

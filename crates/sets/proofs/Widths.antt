@@ -59,7 +59,6 @@ meet-is k a b s t = elim (cases-bool (any k both)) [
   where
     both : ℕ → Bool
     both v = has a v && has b v
-
     none : any k both ≡ false → (v : ℕ) → v < k → both v ≡ false
     none o v l = refuted (λ t. clash o (decides-any both k .1 (v, l, t)))
 

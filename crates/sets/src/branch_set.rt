@@ -22,11 +22,7 @@ pub fn single(branch: u32) -> u64
 pub fn below(count: u32) -> u64
     ensures { λ r. ⌜ r ≡ collect 64 (λ v. ltb v count) ⌝ }
 {
-    if count < 64 {
-        (1 << count) - 1
-    } else {
-        u64::MAX
-    }
+    if count < 64 { (1 << count) - 1 } else { u64::MAX }
 }
 
 // The members of `a` that are not in `b`.
@@ -47,9 +43,5 @@ pub fn meet(a: u64, b: u64) -> bool
 pub fn lowest(set: u64) -> Option<u32>
     ensures { λ r. ⌜ r ≡ lowestBelow 64 (has set) ⌝ }
 {
-    if set == 0 {
-        None
-    } else {
-        Some(set.trailing_zeros())
-    }
+    if set == 0 { None } else { Some(set.trailing_zeros()) }
 }

@@ -22,11 +22,7 @@ pub fn single(node: u32) -> u32
 pub fn below(count: u32) -> u32
     ensures { λ r. ⌜ r ≡ collect 32 (λ v. ltb v count) ⌝ }
 {
-    if count < 32 {
-        (1 << count) - 1
-    } else {
-        u32::MAX
-    }
+    if count < 32 { (1 << count) - 1 } else { u32::MAX }
 }
 
 // The members of `a` that are not in `b`.
@@ -47,9 +43,5 @@ pub fn meet(a: u32, b: u32) -> bool
 pub fn lowest(set: u32) -> Option<u32>
     ensures { λ r. ⌜ r ≡ lowestBelow 32 (has set) ⌝ }
 {
-    if set == 0 {
-        None
-    } else {
-        Some(set.trailing_zeros())
-    }
+    if set == 0 { None } else { Some(set.trailing_zeros()) }
 }
