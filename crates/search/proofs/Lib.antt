@@ -10,3 +10,6 @@ pub mod Shares
 pub mod Sound
 pub mod Portions
 pub mod Doors
+pub mod Walks
+pub mod RowSets
+pub mod Tables
