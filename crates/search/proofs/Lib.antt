@@ -13,3 +13,4 @@ pub mod Doors
 pub mod Walks
 pub mod RowSets
 pub mod Tables
+pub mod Plans

@@ -118,11 +118,9 @@ module _ {net : Net} {head door : ℕ} (legal : Legal net) (aim : Aim net head d
   door-clear K k v i = refuted (λ t. clash (k .door-out) (subst (λ x. x ∈ K) (single-out door v t) i))
 
   first-good : Good net head door (first-row net head door)
-  unfolding first-row
   first-good = record { side = closed-head; clear = door-clear (closure net door (single head)) closed-head; door-barred = single-in legal door (aim .door-below) }
 
   first-all : (K : ℕ) → Side net head door K → Region net K (first-row net head door)
-  unfolding first-row
   first-all K k v l = (
     closure-least legal (aim .door-below) (single head) (single-small legal head (aim .head-below)) K k (λ x i. subst (λ y. y ∈ K) (sym (single-out head x i)) (k .head-in)) v,
     door-clear K k v,

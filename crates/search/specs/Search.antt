@@ -137,7 +137,7 @@ pub record Search : Type 0 where
 abbrev pub searched : List Row → ℕ → Search
 searched rows tries = record { rows = rows; tries = tries }
 
-unfoldable pub first-row : Net → ℕ → ℕ → Row
+abbrev pub first-row : Net → ℕ → ℕ → Row
 first-row net head door = record { inside = closure net door (single head); barred = single door }
 
 -- the search of an accepted aim, before its first try

@@ -1,6 +1,10 @@
 // What the search does next.
 ghost use mathlib.Core.Path.{_≡_};
-ghost use Rattle.search.specs.Search.{current};
+ghost use mathlib.Core.Bool.{_&&_};
+ghost use lib.Dec.{leb};
+ghost use lib.ListN.{length};
+ghost use Rattle.std.specs.Options.{isSome};
+ghost use Rattle.search.specs.Search.{current, room};
 ghost use Rattle.search.specs.Tables.{rows-of};
 ghost use Rattle.search.specs.Steps.{Shut, clear-row, row-by, planned, status-by};
 use crate::candidates::lowest_candidate;
@@ -76,6 +80,13 @@ fn row_by<N: Network>(network: &N, door: u32, row: Row, node: u32) -> Option<Row
     )
 }
 
+// Whether there is a row to be written, and no room for it.
+fn lacks_room(table: &Table, written: Option<Row>) -> bool
+    ensures { λ r. ⌜ r ≡ (leb room (length (rows-of (now (table .entry)))) && isSome written) ⌝ }
+{
+    table.is_full() && written.is_some()
+}
+
 // The next try, where the first rows have no candidate.
 pub(crate) fn next_try<N: Network>(table: &Table, network: &N, door: u32, first: usize) -> Next
     requires { ⌜ Shut (net (now network)) (rows-of (now table)) first ⌝ }
@@ -89,7 +100,7 @@ pub(crate) fn next_try<N: Network>(table: &Table, network: &N, door: u32, first:
         return Next::Finish;
     };
     let written = row_by(network, door, row, node);
-    if table.is_full() && written.is_some() {
+    if lacks_room(table, written) {
         return Next::Fill;
     }
     Next::Go(Try {
