@@ -14,3 +14,4 @@ pub mod Walks
 pub mod RowSets
 pub mod Tables
 pub mod Plans
+pub mod Paid

@@ -4,3 +4,4 @@ pub mod Statement
 pub mod Tables
 pub mod Steps
 pub mod Cases
+pub mod Barred
