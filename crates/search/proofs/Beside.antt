@@ -1,15 +1,15 @@
 -- Neighbours stand for the branch list.
-use mathlib.Core.Path.{_≡_, refl, sym, ap, _∙_}
-use mathlib.Core.Bool.{Bool, true, false}
-use mathlib.Core.Logic.{_⊎_, inl, inr}
-use Prim.Native.Nat.{ℕ, _<_, _≤_, _^_}
+use mathlib.Core.Path.{_≡_, sym, ap, _∙_}
+use mathlib.Core.Bool.{Bool, true}
+use mathlib.Core.Logic.{inl, inr}
+use Prim.Native.Nat.{ℕ, _<_, _^_}
 use native.Mathlib.Omega.{arith}
 use Rattle.std.proofs.shelf.Tests.{cases-bool}
 use Rattle.network.specs.Meaning.{Net, Legal}
-use Rattle.sets.specs.Masks.{has, collect, _∈_, _∉_}
+use Rattle.sets.specs.Masks.{has, _∈_}
 use Rattle.sets.proofs.Members.{clash, refuted, has-collect, collect-small, below-mask}
 use Rattle.search.specs.Cuts.{Link}
-use Rattle.search.specs.Search.{single, share, touches, neighbours}
+use Rattle.search.specs.Search.{single, touches, neighbours}
 use Rattle.search.specs.Statement.{Neighbours-suffice}
 use Rattle.search.proofs.Singles.{single-in, single-out, share-in, share-out}
 use Rattle.search.proofs.Links.{touches-out, touches-in, link-below}

@@ -1,22 +1,21 @@
 -- Each minimal cut is the cut of a side.
 use mathlib.Core.Path.{_≡_, refl, sym, ap, subst, _∙_}
-use mathlib.Core.Bool.{Bool, true, false, not, _&&_, _||_}
-use mathlib.Core.Logic.{_⊎_, inl, inr}
-use Prim.Native.Nat.{ℕ, _+_, _≤_, _<_, _^_}
+use mathlib.Core.Bool.{not, _&&_}
+use mathlib.Core.Logic.{inl, inr}
+use Prim.Native.Nat.{ℕ, _<_, _^_}
 use lib.Dec.{eqb}
-use Rattle.std.proofs.shelf.Bits.{pow-below}
-use Rattle.std.proofs.shelf.Tests.{cases-bool, and-parts, and-from, not-true, not-false, not-from-true, not-from-false, eqb-true, eq-eqb, and-cases}
+use Rattle.std.proofs.shelf.Tests.{cases-bool, and-parts, not-true, not-false, not-from-true, not-from-false, eqb-true, eq-eqb, and-cases}
 use Rattle.sets.specs.Masks.{has, collect, _∈_, _∉_}
 use Rattle.network.specs.Meaning.{Net, Legal}
-use Rattle.search.specs.Cuts.{Link, Ends, Chain, here, step, Joined, Cut, MinimalCut, branch, branches-of, ables, sure, present, without}
+use Rattle.search.specs.Cuts.{Link, Ends, Chain, Joined, Cut, MinimalCut, branch, branches-of, present, without}
 use Rattle.search.specs.Search.{single, held, closure, crossing, spread, touches}
 use Rattle.sets.proofs.Members.{clash, refuted, certain, has-collect, collect-small, below-mask, same-mask}
 use Rattle.search.proofs.Singles.{single-in, single-out, single-small}
-use Rattle.search.proofs.Chains.{starts, ends, append, back, moved, kept, Leaves, leaves}
+use Rattle.search.proofs.Chains.{ends, append, back, moved, kept, leaves}
 use Rattle.search.proofs.Spread.{spread-small, spread-more, spread-closed, spread-chain}
-use Rattle.search.proofs.Links.{held-more, held-chain, touches-out, touches-in, link-back, link-below, link-moved, able-present, not-both, firm-live}
+use Rattle.search.proofs.Links.{held-more, held-chain, touches-out, touches-in, link-back, link-below, able-present, not-both, firm-live}
 use Rattle.search.proofs.Sides.{Side, out-of, closure-side, closure-edge}
-use Rattle.search.proofs.Cuts.{cut-of, in-cut, cut-crosses, crossed, without-out, live-of, unless, leading-out}
+use Rattle.search.proofs.Cuts.{cut-of, cut-crosses, crossed, without-out, live-of, unless, leading-out}
 
 -- Z without one of its branches
 less : ℕ → ℕ → ℕ → ℕ

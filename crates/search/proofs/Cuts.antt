@@ -1,19 +1,16 @@
 -- Sides and minimal cuts correspond one to one.
-use mathlib.Core.Path.{_≡_, refl, sym, ap, subst, _∙_}
+use mathlib.Core.Path.{_≡_, refl, sym, ap, _∙_}
 use mathlib.Core.Bool.{Bool, true, false, not, _&&_, _||_}
 use mathlib.Core.Logic.{_⊎_, inl, inr}
-use Prim.Native.Nat.{ℕ, _+_, _≤_, _<_, _^_}
-use lib.Dec.{eqb}
-use Rattle.std.proofs.shelf.Bits.{pow-below}
-use Rattle.std.proofs.shelf.Tests.{cases-bool, and-parts, and-from, or-cases, or-left, or-right, not-true, not-false, not-from-true, not-from-false, eqb-true, eq-eqb, true≢false}
+use Prim.Native.Nat.{ℕ, _<_}
+use Rattle.std.proofs.shelf.Tests.{cases-bool, and-parts, and-from, or-left, or-right, not-true, not-from-false, true≢false}
 use Rattle.sets.specs.Masks.{has, collect, _∈_, _∉_}
 use Rattle.network.specs.Meaning.{Net, Legal}
-use Rattle.search.specs.Cuts.{Link, Ends, Chain, here, step, Joined, Cut, MinimalCut, branch, branches-of, ables, sure, present, without}
-use Rattle.search.specs.Search.{crossing, spread, touches}
+use Rattle.search.specs.Cuts.{Link, Ends, step, Cut, MinimalCut, branch, branches-of, ables, present, without}
+use Rattle.search.specs.Search.{crossing}
 use Rattle.sets.proofs.Members.{clash, refuted, certain, has-collect, collect-small, below-mask, same-mask}
-use Rattle.search.proofs.Chains.{starts, ends, append, back, moved, kept, Leaves, leaves}
-use Rattle.search.proofs.Spread.{spread-more, spread-closed, spread-chain}
-use Rattle.search.proofs.Links.{touches-out, touches-in, link-back, link-below, link-moved, able-present, present-cases, not-both}
+use Rattle.search.proofs.Chains.{ends, append, back, moved, kept, leaves}
+use Rattle.search.proofs.Links.{link-back, link-below, link-moved, able-present, present-cases}
 use Rattle.search.proofs.Sides.{Side, out-of}
 
 -- a test that is the same at both ends, or differs

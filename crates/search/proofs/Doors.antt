@@ -1,25 +1,23 @@
 -- One cut for several doors.
-use mathlib.Core.Path.{_≡_, refl, sym, ap, subst, _∙_}
-use mathlib.Core.Bool.{Bool, true, false, not}
-use mathlib.Core.Logic.{_⊎_, inl, inr}
+use mathlib.Core.Path.{_≡_, sym, ap, subst, _∙_}
+use mathlib.Core.Bool.{not}
+use mathlib.Core.Logic.{inl, inr}
 use Prim.Native.Nat.{ℕ, _<_, _≤_}
 use native.Mathlib.Omega.{arith}
-use lib.ListN.{length}
 use Rattle.std.proofs.shelf.Tests.{cases-bool, cases-lt, not-true, not-from-false}
 use Rattle.search.specs.declared.row.Row.{Row}
-use Rattle.sets.specs.Masks.{has, collect, least, _∈_, _∉_}
+use Rattle.sets.specs.Masks.{has, least, _∈_}
 use Rattle.network.specs.Meaning.{Net, Legal}
-use Rattle.search.specs.Cuts.{Link, Chain, Joined, MinimalCut, sure, present}
-use Rattle.search.specs.Search.{Search, row-at, branch-set, node-vector, aimed, run}
-use Rattle.search.specs.Statement.{Aim, Vectors-tell, Lowest-door}
-use Rattle.sets.proofs.Members.{clash, refuted, certain, has-collect, collect-small, below-mask, Least, least-is}
-use Rattle.search.proofs.Chains.{ends, append, back, moved, kept, Leaves, leaves}
+use Rattle.search.specs.Cuts.{Link, Joined, MinimalCut, present}
+use Rattle.search.specs.Search.{row-at, branch-set, node-vector, aimed, run}
+use Rattle.search.specs.Statement.{Vectors-tell, Lowest-door}
+use Rattle.sets.proofs.Members.{clash, certain, has-collect, least-is}
+use Rattle.search.proofs.Chains.{ends, append, back, moved, kept, leaves}
 use Rattle.search.proofs.Links.{link-back, link-below}
 use Rattle.search.proofs.Sides.{Side, side-moves}
 use Rattle.search.proofs.Cuts.{cut-of, uncrossed, leading-out, side-cut, same-side}
 use Rattle.search.proofs.Complete.{side-of, is-side, is-cut}
-use Rattle.search.proofs.Shares.{Good}
-use Rattle.search.proofs.Sound.{Inv, start, always, good-at}
+use Rattle.search.proofs.Sound.{start, always, good-at}
 
 module _ {net : Net} (legal : Legal net) {head : ℕ} where
   -- a link that stays on one side of K stays within L, where the two have one cut

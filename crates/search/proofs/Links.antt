@@ -1,22 +1,21 @@
 -- Links by their tests, and what `held`, `outside` and `closure` are.
 use mathlib.Core.Path.{_≡_, refl, sym, ap, subst, _∙_}
-use mathlib.Core.Bool.{Bool, true, false, not, _&&_, _||_}
+use mathlib.Core.Bool.{Bool, true, not, _&&_, _||_}
 use mathlib.Core.Logic.{_⊎_, inl, inr}
-use Prim.Native.Nat.{ℕ, zero, suc, _+_, _≤_, _<_, _^_}
+use Prim.Native.Nat.{ℕ, _<_, _^_}
 use native.Mathlib.Omega.{arith}
 use lib.Dec.{eqb}
-use Rattle.std.proofs.shelf.Bits.{pow-below}
 use Rattle.std.proofs.shelf.Tests.{false≢true, cases-bool, and-parts, and-from, or-cases, or-left, or-right, not-true, not-false, or-parts, not-from-false, eqb-true, eq-eqb}
 use Rattle.network.specs.declared.branch.Condition.{Condition}
 use Rattle.network.specs.declared.branch.Condition.the-variants.{Able, Failed, Working}
 use Rattle.network.specs.declared.branch.Branch.{Branch}
-use Rattle.sets.specs.Masks.{has, collect, any, _∈_, _∉_}
+use Rattle.sets.specs.Masks.{has, _∈_, _∉_}
 use Rattle.network.specs.Meaning.{Net, Legal}
-use Rattle.search.specs.Cuts.{is-able, is-working, is-present, Link, Ends, Chain, here, step, branch, branches-of, sure, present}
-use Rattle.search.specs.Search.{single, meets, touches, spread, held, outside, closure}
-use Rattle.sets.proofs.Members.{clash, certain, has-collect, collect-small, below-mask, has-single, decides-any}
+use Rattle.search.specs.Cuts.{is-able, is-working, is-present, Link, Ends, Chain, branch, branches-of, sure, present}
+use Rattle.search.specs.Search.{single, meets, touches, held, outside, closure}
+use Rattle.sets.proofs.Members.{clash, certain, has-collect, collect-small, decides-any}
 use Rattle.search.proofs.Singles.{ends-below, single-in, single-out}
-use Rattle.search.proofs.Chains.{starts, ends, append, back, moved, kept}
+use Rattle.search.proofs.Chains.{ends, back, moved, kept}
 use Rattle.search.proofs.Spread.{spread-small, spread-more, spread-closed, spread-chain}
 
 meets-out : (b : Branch) (S v : ℕ) → meets b S v ≡ true → (u : ℕ) × (u ∈ S) × Ends b u v

@@ -1,17 +1,17 @@
 -- Each try bars a node, so the tries are at most 32 for each row.
 use Prim.Native.Nat.{ℕ, zero, suc, _+_, _*_, _<_, _≤_}
-use mathlib.Core.Path.{_≡_, refl, ap, sym, subst, _∙_}
-use mathlib.Core.Bool.{Bool, true, false, not, _&&_, _||_}
-use mathlib.Core.List.{List, [], _∷_, _++_}
-use mathlib.Core.Logic.{_⊎_, inl, inr}
+use mathlib.Core.Path.{_≡_, ap, sym, subst, _∙_}
+use mathlib.Core.Bool.{not, _&&_}
+use mathlib.Core.List.{List, [], _∷_}
+use mathlib.Core.Logic.{inl, inr}
 use native.Mathlib.Omega.{arith}
 use lib.Bits.{bitOr}
 use lib.ListN.{length, set}
 use Rattle.std.proofs.shelf.Sums.{sumBy-append, sumBy-set, sumBy-le}
 use Rattle.std.proofs.shelf.Tests.{and-parts, not-true, or-left, or-right}
-use Rattle.std.specs.shelf.Lists.{All, sumBy}
+use Rattle.std.specs.shelf.Lists.{All}
 use Rattle.network.specs.Meaning.{Net, Legal}
-use Rattle.sets.specs.Masks.{has, count, _∈_, _∉_}
+use Rattle.sets.specs.Masks.{has}
 use Rattle.sets.proofs.Members.{count-max, count-lt, has-or}
 use Rattle.search.specs.declared.row.Row.{Row}
 use Rattle.search.specs.declared.status.Status.the-variants.{More}

@@ -1,21 +1,21 @@
 -- The current row, the try that is planned, and tries one after another.
-use Prim.Native.Nat.{ℕ, zero, suc, _+_, _-_, _<_, _≤_}
+use Prim.Native.Nat.{ℕ, _+_, _-_, _<_, _≤_}
 use mathlib.Core.Path.{_≡_, refl, ap, ap₂, sym, subst, _∙_}
 use mathlib.Core.Bool.{Bool, true, false, not, cond, _&&_}
 use mathlib.Core.List.{List, [], _∷_, _++_}
-use mathlib.Core.Logic.{_⊎_, inl, inr}
+use mathlib.Core.Logic.{inl, inr}
 use native.Mathlib.Omega.{arith}
 use lib.Dec.{ltb, leb}
-use lib.ListN.{length, set, getD, length-set}
+use lib.ListN.{length, set, length-set}
 use Rattle.std.specs.Finite.{nth}
 use Rattle.std.specs.Options.{isSome}
 use Rattle.std.specs.declared.option.Option.{Option}
 use Rattle.std.specs.declared.option.Option.the-variants.{Some, None}
 use Rattle.std.proofs.shelf.Lists.{getD-append-left, getD-set-other}
-use Rattle.std.proofs.shelf.Tests.{cases-bool, cases-lt, cond-true, cond-false, ltb-true, ltb-false, lt-ltb, le-leb, and-from, and-right}
-use Rattle.network.specs.Meaning.{Net, Legal}
+use Rattle.std.proofs.shelf.Tests.{cases-lt, cond-true, ltb-true, ltb-false, lt-ltb, le-leb, and-from}
+use Rattle.network.specs.Meaning.{Net}
 use Rattle.sets.specs.Masks.{least, lowest}
-use Rattle.sets.proofs.Members.{Least, least-is}
+use Rattle.sets.proofs.Members.{least-is}
 use Rattle.sets.proofs.Shifts.{least-unique}
 use Rattle.sets.proofs.Nth.{nth-is, below-some, at-left-more, at-left-none}
 use Rattle.search.specs.declared.row.Row.{Row}
@@ -23,10 +23,10 @@ use Rattle.search.specs.declared.status.Status.{Status}
 use Rattle.search.specs.declared.status.Status.the-variants.{Finished, Full, More}
 use Rattle.search.specs.declared.plan.Try.{Try}
 use Rattle.search.specs.declared.plan.Next.{Next}
-use Rattle.search.specs.declared.plan.Next.the-variants.{Finish, Fill, Go}
+use Rattle.search.specs.declared.plan.Next.the-variants.{Fill, Go}
 use Rattle.search.specs.Search.{Search, searched, share, row-at, open-row, candidate, lowest-candidate, current, grown, writes, room, status, barring, written, tried, next, run}
 use Rattle.search.specs.Steps.{Shut, row-by, chosen, next-by, planned, status-by, listed, applied, Fits, Room}
-use Rattle.search.proofs.Sound.{by-status, more-open, shut-finished, current-open}
+use Rattle.search.proofs.Sound.{more-open, current-open}
 
 -- what the search for the current row has come to
 module _ (net : Net) (rows : List Row) where

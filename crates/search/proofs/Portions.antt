@@ -1,30 +1,29 @@
 -- What follows of closures, of chains and of portions of a search.
 use mathlib.Core.Path.{_≡_, refl, sym, ap, subst, _∙_}
-use mathlib.Core.Bool.{Bool, true, false, not, cond, _&&_}
-use mathlib.Core.List.{List, [], _∷_, _++_}
+use mathlib.Core.Bool.{Bool, true, not}
+use mathlib.Core.List.{List, _++_}
 use mathlib.Core.Logic.{_⊎_, inl, inr}
-use Prim.Native.Nat.{ℕ, zero, suc, _+_, _≤_, _<_, _^_}
+use Prim.Native.Nat.{ℕ, zero, suc, _+_, _<_}
 use native.Mathlib.Nat.{zero-add, suc-add}
 use native.Mathlib.Omega.{arith}
-use lib.Dec.{eqb, ltb}
 use lib.ListN.{length, getD, set, length-append, length-set}
 use Rattle.std.proofs.shelf.Lists.{getD-append-left, getD-set-same, getD-set-other}
-use Rattle.std.proofs.shelf.Tests.{cases-eq, and-parts, and-from, not-true, not-from-false, ltb-true, eq-eqb, cond-both}
+use Rattle.std.proofs.shelf.Tests.{cases-eq, and-parts, and-from, not-true, not-from-false}
 use Rattle.search.specs.declared.row.Row.{Row}
 use Rattle.search.specs.declared.status.Status.{Status}
 use Rattle.search.specs.declared.status.Status.the-variants.{Finished, Full, More}
 use Rattle.sets.specs.Masks.{has, collect, _∈_, _∉_}
 use Rattle.network.specs.Meaning.{Net, Legal}
-use Rattle.search.specs.Cuts.{Link, Chain, here, step, Joined, Cut, MinimalCut, sure, present, without}
-use Rattle.search.specs.Search.{single, Search, touches, spread, held, closure, crossing, branch-set, row-at, current, barring, written, tried, aimed, next, run, status, linked}
-use Rattle.search.specs.Statement.{Aim, Sound, Linked-tells, Larger-cuts, Held, Closes, Closure-closes, Keeps, Run-keeps, Run-adds, Run-counts, Either-end}
+use Rattle.search.specs.Cuts.{Link, Joined, Cut, sure, present, without}
+use Rattle.search.specs.Search.{single, Search, touches, held, closure, crossing, branch-set, row-at, current, barring, written, tried, next, run, status, linked}
+use Rattle.search.specs.Statement.{Aim, Linked-tells, Larger-cuts, Held, Closure-closes, Keeps, Run-keeps, Run-adds, Run-counts, Either-end}
 use Rattle.sets.proofs.Members.{clash, refuted, below-mask}
 use Rattle.search.proofs.Singles.{single-in, single-out}
 use Rattle.search.proofs.Chains.{ends, back, moved, kept}
 use Rattle.search.proofs.Spread.{spread-more, spread-closed, spread-chain}
 use Rattle.search.proofs.Links.{touches-out, touches-in, link-back, link-moved, link-below, held-more, held-firm, held-chain, closure-small, closure-all, closure-none, closure-in}
 use Rattle.search.proofs.Sides.{out-of}
-use Rattle.search.proofs.Sound.{Inv, by-status, start, always, sound, search-sound}
+use Rattle.search.proofs.Sound.{by-status, search-sound}
 
 pub closure-closes : Closure-closes
 closure-closes net door J legal l s = record {

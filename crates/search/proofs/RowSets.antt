@@ -1,27 +1,27 @@
 -- Closures, branch sets, node vectors and candidates as the code makes them.
 use Prim.Native.Nat.{ℕ, zero, suc, _+_, _-_, _^_, _<_, _≤_}
 use mathlib.Core.Path.{_≡_, refl, ap, ap₂, sym, _∙_}
-use mathlib.Core.Bool.{Bool, true, false, not, cond, _&&_, _||_}
-use mathlib.Core.Logic.{_⊎_, inl, inr}
+use mathlib.Core.Bool.{Bool, true, false, not, _&&_, _||_}
+use mathlib.Core.Logic.{inl, inr}
 use native.Mathlib.Omega.{arith}
 use lib.Dec.{eqb, ltb}
 use lib.Bits.{bitOr}
 use Rattle.std.specs.Finite.{nth}
-use Rattle.std.specs.declared.option.Option.the-variants.{Some, None}
+use Rattle.std.specs.declared.option.Option.the-variants.{Some}
 use Rattle.std.proofs.shelf.Bits.{pow-pos}
 use Rattle.std.proofs.shelf.Tests.{cases-lt, lt-ltb, le-ltb, cond-true, cond-false}
 use Rattle.std.proofs.shelf.Ways.{tells}
 use Rattle.network.specs.declared.branch.Branch.{Branch}
 use Rattle.network.specs.Meaning.{Net, Legal}
-use Rattle.sets.specs.Masks.{has, collect, least, lowest, _∈_, _∉_}
-use Rattle.sets.proofs.Members.{clash, has-none, has-collect, collect-small, Least, least-is}
+use Rattle.sets.specs.Masks.{has, collect, least, lowest, _∉_}
+use Rattle.sets.proofs.Members.{clash, has-none, has-collect, collect-small, least-is}
 use Rattle.sets.proofs.Shifts.{collect-yes, least-unique}
 use Rattle.sets.proofs.Collected.{has-first, is-collect, within-mask}
 use Rattle.sets.proofs.Widths.{single-is}
 use Rattle.search.specs.declared.row.Row.{Row}
 use Rattle.search.specs.declared.reach.Over.{Over}
 use Rattle.search.specs.declared.reach.Over.the-variants.{Present, Sure}
-use Rattle.search.specs.Cuts.{branch, branches-of, sure, present}
+use Rattle.search.specs.Cuts.{branches-of, present}
 use Rattle.search.specs.Search.{single, touches, widened, spread, linked, held, outside, closure, crossing, branch-set, node-vector, candidate}
 use Rattle.search.specs.Steps.{kept, avoiding, parts}
 use Rattle.search.proofs.Walks.{answered, collect-same}

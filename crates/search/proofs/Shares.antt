@@ -1,24 +1,23 @@
 -- One try on one row: what the rows stand for is shared out.
 use mathlib.Core.Path.{_≡_, refl, sym, ap, subst, _∙_}
 use mathlib.Core.Bool.{Bool, true, false, not, cond, _&&_, _||_}
-use mathlib.Core.List.{List, [], _∷_}
+use mathlib.Core.List.{[], _∷_}
 use mathlib.Core.Logic.{_⊎_, inl, inr}
 use Prim.Native.Nat.{ℕ, zero, suc, _+_, _≤_, _<_, _^_}
 use native.Mathlib.Omega.{arith}
-use lib.Bits.{bitAnd, bitOr, and-le-l}
-use lib.Dec.{eqb}
+use lib.Bits.{bitOr}
 use lib.ListN.{length}
-use Rattle.std.proofs.shelf.Bits.{or-lt, pow-below}
-use Rattle.std.proofs.shelf.Tests.{cases-bool, and-parts, and-from, or-cases, or-left, or-right, or-from, not-true, not-from-false, eqb-true, eq-eqb, ne-eqb, cond-both}
-use Rattle.std.proofs.shelf.Ways.{tells, same-from-decides, decides-below-and}
+use Rattle.std.proofs.shelf.Bits.{or-lt}
+use Rattle.std.proofs.shelf.Tests.{cases-bool, and-parts, or-cases, or-left, or-right, or-from, not-true, not-from-false, cond-both}
+use Rattle.std.proofs.shelf.Ways.{decides-below-and}
 use Rattle.std.specs.Orderings.{Decides}
 use Rattle.std.specs.shelf.Lists.{All, sumBy}
 use Rattle.search.specs.declared.row.Row.{Row}
 use Rattle.sets.specs.Masks.{count, has, _∈_, _∉_}
 use Rattle.network.specs.Meaning.{Net, Legal}
-use Rattle.search.specs.Cuts.{Link, Chain, here, step, sure, present}
-use Rattle.search.specs.Search.{single, share, held, closure, touches, candidate, lowest-candidate, grown, writes, barring, written}
-use Rattle.sets.proofs.Members.{clash, refuted, below-mask, same-mask, has-or, has-and, has-single, has-none, count-le, count-lt}
+use Rattle.search.specs.Cuts.{Link, Chain, step, present}
+use Rattle.search.specs.Search.{single, share, touches, candidate, lowest-candidate, grown, writes, barring, written}
+use Rattle.sets.proofs.Members.{clash, refuted, below-mask, has-or, count-lt}
 use Rattle.search.proofs.Singles.{single-in, single-out, single-not, single-small, share-in, share-out}
 use Rattle.search.proofs.Chains.{moved}
 use Rattle.search.proofs.Links.{touches-out, link-back, closure-small, closure-all}

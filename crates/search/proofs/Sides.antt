@@ -1,17 +1,17 @@
 -- The sides of minimal cuts: the sets of nodes that closures are.
-use mathlib.Core.Path.{_≡_, refl, sym, ap, subst, _∙_}
-use mathlib.Core.Bool.{Bool, true, false, not, _&&_, _||_}
-use mathlib.Core.Logic.{_⊎_, inl, inr}
-use Prim.Native.Nat.{ℕ, _+_, _≤_, _<_, _^_}
-use Rattle.std.proofs.shelf.Tests.{cases-bool, and-from, not-true, not-false, not-from-true, not-from-false}
+use mathlib.Core.Path.{_≡_}
+use mathlib.Core.Bool.{false, not, _&&_}
+use mathlib.Core.Logic.{inl, inr}
+use Prim.Native.Nat.{ℕ, _<_, _^_}
+use Rattle.std.proofs.shelf.Tests.{cases-bool, and-from, not-false, not-from-true, not-from-false}
 use Rattle.search.specs.declared.row.Row.{Row}
 use Rattle.sets.specs.Masks.{has, _∈_, _∉_}
 use Rattle.network.specs.Meaning.{Net, Legal}
 use Rattle.search.specs.Cuts.{Link, Chain, here, step, sure, present}
 use Rattle.search.specs.Search.{held, closure, candidate, touches}
 use Rattle.sets.proofs.Members.{clash, refuted, certain, below-mask}
-use Rattle.search.proofs.Chains.{starts, ends, append, back, moved, kept, Leaves, leaves}
-use Rattle.search.proofs.Links.{touches-in, link-back, link-below, Live, Firm, firm-live, held-small, held-more, held-firm, held-chain, closure-small, closure-out, closure-none, closure-in}
+use Rattle.search.proofs.Chains.{starts, ends, append, back, moved, kept, leaves}
+use Rattle.search.proofs.Links.{touches-in, link-back, link-below, firm-live, held-small, held-more, held-firm, held-chain, closure-small, closure-out, closure-none, closure-in}
 
 -- where a link leads out of J, its inner end is chained to the head inside J
 abbrev pub Rooted : Net → ℕ → ℕ → Type 0

@@ -1,17 +1,15 @@
 -- The set of one node, nodes in common, and the ends of a branch.
-use mathlib.Core.Path.{_≡_, refl, sym, ap, _∙_}
-use mathlib.Core.Bool.{Bool, true, false, not, _&&_}
-use mathlib.Core.Logic.{_⊎_, inl, inr}
-use Prim.Native.Nat.{ℕ, _<_, _≤_, _^_}
+use mathlib.Core.Path.{_≡_, refl, sym, _∙_}
+use mathlib.Core.Bool.{true, false, _&&_}
+use Prim.Native.Nat.{ℕ, _<_, _^_}
 use native.Mathlib.Omega.{arith}
 use lib.Dec.{eqb}
 use Rattle.std.proofs.shelf.Bits.{pow-below}
 use Rattle.std.proofs.shelf.Elements.{all-getD}
-use Rattle.std.proofs.shelf.Tests.{cases-lt, and-parts, and-from, eq-eqb, ne-eqb, eqb-true}
+use Rattle.std.proofs.shelf.Tests.{and-parts, and-from, eq-eqb, eqb-true}
 use Rattle.network.specs.Meaning.{Net, Legal, Within}
-use Rattle.sets.specs.Masks.{has, collect, any, _∈_, _∉_}
-use Rattle.sets.proofs.Members.{clash, refuted, has-collect, collect-small, below-mask, has-single, decides-any}
-use Rattle.sets.proofs.Collected.{within-mask}
+use Rattle.sets.specs.Masks.{has, _∈_, _∉_}
+use Rattle.sets.proofs.Members.{clash, refuted, has-collect, collect-small, below-mask, decides-any}
 use Rattle.sets.proofs.Widths.{single-is}
 use Rattle.search.specs.Cuts.{branch, branches-of}
 use Rattle.search.specs.Search.{single, share}

@@ -1,34 +1,32 @@
 -- The search after any number of tries.
 use mathlib.Core.Path.{_≡_, refl, sym, ap, subst, _∙_}
-use mathlib.Core.Bool.{Bool, true, false, not, cond, _&&_, _||_}
-use mathlib.Core.List.{List, [], _∷_, _++_}
-use mathlib.Core.Logic.{_⊎_, inl, inr}
-use Prim.Native.Nat.{ℕ, zero, suc, _+_, _-_, _*_, _≤_, _<_, _^_}
-use native.Mathlib.Nat.{mul-le-mul-right}
+use mathlib.Core.Bool.{true, false, cond, _&&_}
+use mathlib.Core.List.{List, [], _∷_}
+use mathlib.Core.Logic.{inl, inr}
+use Prim.Native.Nat.{ℕ, zero, suc, _+_, _-_, _*_, _≤_, _<_}
 use native.Mathlib.Omega.{arith}
 use lib.Dec.{ltb, leb}
 use lib.ListN.{length, getD, set, length-append, length-set}
-use Rattle.std.proofs.shelf.Bits.{pow-below}
 use Rattle.std.proofs.shelf.Elements.{all-getD, all-append, all-set, all-weaker}
 use Rattle.std.proofs.shelf.Sums.{sumBy-cons, sumBy-append, sumBy-set, sumBy-le, getD-le-sumBy}
-use Rattle.std.proofs.shelf.Tests.{cases-bool, cases-lt, cases-order, cond-true, cond-false, ltb-true, ltb-false, lt-ltb, le-ltb}
+use Rattle.std.proofs.shelf.Tests.{cases-bool, cases-lt, cases-order, cond-true, cond-false, ltb-true, ltb-false, le-ltb}
 use Rattle.std.specs.shelf.Lists.{All, sumBy}
 use Rattle.search.specs.declared.row.Row.{Row}
 use Rattle.search.specs.declared.status.Status.{Status}
 use Rattle.search.specs.declared.status.Status.the-variants.{Finished, Full, More}
-use Rattle.sets.specs.Masks.{count, has, least, _∈_, _∉_}
+use Rattle.sets.specs.Masks.{count, has, _∈_, _∉_}
 use Rattle.network.specs.Meaning.{Net, Legal}
-use Rattle.search.specs.Cuts.{Link, Chain, here, step, Joined, MinimalCut, sure, present, branches-of}
-use Rattle.search.specs.Search.{single, Search, held, closure, branch-set, candidate, lowest-candidate, open-row, row-at, current, writes, room, status, barring, written, tried, first-row, aimed, next, run}
+use Rattle.search.specs.Cuts.{Link, Chain, here, Joined, sure, present}
+use Rattle.search.specs.Search.{single, Search, closure, branch-set, candidate, lowest-candidate, open-row, row-at, current, writes, room, status, barring, written, tried, first-row, aimed, next, run}
 use Rattle.search.specs.Statement.{Aim, Exhausted, Sound, Search-sound}
-use Rattle.sets.proofs.Members.{clash, refuted, below-mask, same-mask, Least, least-is, count-max, count-lt}
+use Rattle.sets.proofs.Members.{clash, refuted, below-mask, same-mask, least-is, count-max, count-lt}
 use Rattle.search.proofs.Singles.{single-in, single-out, single-small}
 use Rattle.search.proofs.Chains.{moved}
 use Rattle.search.proofs.Links.{held-chain}
-use Rattle.search.proofs.Sides.{Rooted, Side, out-of, closure-side, closure-least, alone}
+use Rattle.search.proofs.Sides.{Side, out-of, closure-side, closure-least, alone}
 use Rattle.search.proofs.Cuts.{cut-of, side-cut, same-side}
 use Rattle.search.proofs.Complete.{side-of, is-side, is-cut, inner, inner-side, inner-cut}
-use Rattle.search.proofs.Shares.{Region, own, some-barred, hit, hit-in, hit-out, hit-cases, Good, barring-good, barred-counts, written-pays, written-good, shared}
+use Rattle.search.proofs.Shares.{Region, own, some-barred, hit, hit-in, hit-cases, Good, barring-good, barred-counts, written-pays, written-good, shared}
 
 -- some element that counts, and two of them
 one-hit : {X : Type 0} (f : X → ℕ) (xs : List X) (d : X) → 1 ≤ sumBy f xs → (i : ℕ) × (i < length xs) × (1 ≤ f (getD xs i d))

@@ -1,15 +1,15 @@
 -- What `spread` reaches: each number with a chain to it, and all of them.
-use mathlib.Core.Path.{_≡_, refl, sym, ap, _∙_}
-use mathlib.Core.Bool.{Bool, true, false, _||_}
+use mathlib.Core.Path.{_≡_, refl, sym, _∙_}
+use mathlib.Core.Bool.{Bool, true, _||_}
 use mathlib.Core.Logic.{_⊎_, inl, inr}
 use Prim.Native.Nat.{ℕ, zero, suc, _+_, _≤_, _<_, _^_}
 use native.Mathlib.Omega.{arith}
 use Rattle.std.proofs.shelf.Tests.{cases-bool, cases-lt, or-cases, or-left, or-right}
-use Rattle.sets.specs.Masks.{count, has, collect, _∈_, _∉_}
+use Rattle.sets.specs.Masks.{count, has, _∈_}
 use Rattle.search.specs.Cuts.{Chain, here, step}
 use Rattle.search.specs.Search.{widened, spread}
 use Rattle.search.proofs.Chains.{ends, kept}
-use Rattle.sets.proofs.Members.{clash, refuted, has-collect, collect-small, below-mask, same-mask, count-max, count-le, count-lt, count-back}
+use Rattle.sets.proofs.Members.{clash, refuted, has-collect, collect-small, below-mask, same-mask, count-max, count-back}
 
 module _ (n : ℕ) (near : ℕ → ℕ → Bool) where
   pub widened-small : (S : ℕ) → widened n near S < 2 ^ n

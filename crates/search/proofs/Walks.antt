@@ -2,20 +2,20 @@
 use Prim.Native.Nat.{ℕ, zero, suc, _+_, _-_, _^_, _<_, _≤_}
 use mathlib.Core.Path.{_≡_, refl, ap, ap₂, sym, _∙_}
 use mathlib.Core.Bool.{Bool, true, false, not, cond, _&&_, _||_, and-true, and-comm}
-use mathlib.Core.Logic.{_⊎_, inl, inr}
+use mathlib.Core.Logic.{inl, inr}
 use native.Mathlib.Omega.{arith}
 use native.Mathlib.Numerals.{add-one}
 use lib.Dec.{eqb, ltb}
 use lib.Bits.{bitAnd, bitOr, and-le-r, or-lt}
 use Rattle.std.specs.Finite.{nth}
-use Rattle.std.specs.declared.option.Option.the-variants.{Some, None}
+use Rattle.std.specs.declared.option.Option.the-variants.{Some}
 use Rattle.std.proofs.shelf.Bits.{pow-pos}
-use Rattle.std.proofs.shelf.Tests.{cases-bool, cases-lt, lt-ltb, le-ltb}
+use Rattle.std.proofs.shelf.Tests.{cases-lt, lt-ltb}
 use Rattle.std.proofs.shelf.Ways.{tells}
 use Rattle.network.specs.declared.branch.Branch.{Branch}
 use Rattle.network.specs.Meaning.{Net, Legal}
-use Rattle.sets.specs.Masks.{has, collect, any, _∈_, _∉_}
-use Rattle.sets.proofs.Members.{clash, refuted, has-collect, collect-small, has-and, has-or, has-none}
+use Rattle.sets.specs.Masks.{has, collect, any}
+use Rattle.sets.proofs.Members.{refuted, has-collect, collect-small, has-and, has-or, has-none}
 use Rattle.sets.proofs.Collected.{has-first, is-collect, within-mask}
 use Rattle.sets.proofs.Nth.{nth-is, at-left-more, at-left-none}
 use Rattle.sets.proofs.Widths.{below-is}

@@ -7,7 +7,6 @@ use lib.ListN.{length}
 use Rattle.std.specs.Orderings.{Decides}
 use Rattle.network.specs.Meaning.{Net, Legal}
 use Rattle.sets.specs.Masks.{_∈_}
-use Rattle.search.specs.declared.status.Status.{Status}
 use Rattle.search.specs.declared.status.Status.the-variants.{Finished, More}
 use Rattle.search.specs.Cuts.{Joined, Link, Chain, Cut, MinimalCut, ables, branches-of, sure, present}
 use Rattle.search.specs.Search.{Search, share, touches, neighbours, linked, closure, status, row-at, branch-set, node-vector, candidate, aimed, run}

@@ -1,7 +1,7 @@
 -- Inner bookkeeping, which only the contracts of inner functions cite: walks by the branches that they use, a plan for the next try, and what it asks of the table.
 use Prim.Native.Nat.{ℕ, _<_}
 use mathlib.Core.Path.{_≡_}
-use mathlib.Core.Bool.{Bool, true, false, not, cond, _&&_, _||_}
+use mathlib.Core.Bool.{Bool, false, not, cond, _&&_, _||_}
 use mathlib.Core.List.{List, [], _∷_, _++_}
 use lib.Bits.{bitOr}
 use Rattle.std.specs.declared.option.Option.{Option}

@@ -1,6 +1,5 @@
 use Prim.Native.Nat.{_+_, _-_}
-use mathlib.Core.Path.{_≡_, sym, ap, _∙_}
-use native.Mathlib.Omega.{arith}
+use mathlib.Core.Path.{sym, ap, _∙_}
 use Rattle.search.specs.Search.{spread}
 use Rattle.search.specs.Steps.{avoiding}
 use Rattle.search.proofs.Walks.{spread-fixed, spread-one, spread-none}

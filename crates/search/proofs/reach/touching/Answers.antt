@@ -1,5 +1,5 @@
 use native.Mathlib.Omega.{arith}
-use mathlib.Core.Path.{_≡_, sym, _∙_}
+use mathlib.Core.Path.{sym, _∙_}
 use Rattle.sets.proofs.Nth.{some-below}
 use Rattle.search.proofs.Walks.{met-none, met-yes, met-no, touching-is}
 use Rattle.search.proofs.reach.touching.Needs.{in-Some-b·then-is-usable, in-Some-b·else-is-usable, in-rest-b}

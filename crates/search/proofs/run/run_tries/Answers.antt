@@ -1,7 +1,7 @@
 use Prim.Native.Nat.{ℕ, _+_, _-_, _≤_}
-use mathlib.Core.Path.{_≡_, sym, subst, ap, ap₂, _∙_}
+use mathlib.Core.Path.{_≡_, sym, subst, ap₂, _∙_}
 use native.Mathlib.Omega.{arith}
-use Rattle.search.specs.Search.{run, tried, searched}
+use Rattle.search.specs.Search.{run, searched}
 use Rattle.search.specs.Tables.{rows-of}
 use Rattle.search.specs.Steps.{Shut}
 use Rattle.search.specs.declared.run.Progress.{Progress}
