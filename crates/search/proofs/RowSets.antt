@@ -44,13 +44,13 @@ pub linked-is : (over : Over) (net : Net) (u v s R : ℕ) (r : Bool) → s ≡ s
 unfolding linked
 linked-is over net u v s R r e f h = h ∙ ap (λ q. has q v) (f ∙ ap (spread (net .nodes) (avoiding over net 0) (net .nodes)) e ∙ free-spread over net (single u))
 
-held-is : (net : Net) (J : ℕ) → spread (net .nodes) (avoiding Sure net 0) (net .nodes) J ≡ held net J
+pub held-is : (net : Net) (J : ℕ) → spread (net .nodes) (avoiding Sure net 0) (net .nodes) J ≡ held net J
 unfolding held
 held-is net J = free-spread Sure net J
 
-outside-is : (net : Net) (door J : ℕ) → spread (net .nodes) (avoiding Present net J) (net .nodes) (single door) ≡ outside net door J
+pub outside-is : (net : Net) (door J s : ℕ) → s ≡ single door → spread (net .nodes) (avoiding Present net J) (net .nodes) s ≡ outside net door J
 unfolding outside
-outside-is net door J = refl
+outside-is net door J s e = ap (spread (net .nodes) (avoiding Present net J) (net .nodes)) e
 
 -- what is left of the first n nodes
 others-is : (n A K : ℕ) → n ≤ 32 → A ≡ 2 ^ n - 1 → collect 32 (λ v. has A v && not (has K v)) ≡ collect n (λ v. not (has K v))
@@ -65,23 +65,21 @@ others-is n A K l a = is-collect 32 n (collect 32 (λ v. has A v && not (has K v
     first v = ap (λ q. has q v) a ∙ has-first n v
 
 -- where the door is held, and where it is not
-pub closure-whole : (net : Net) (door J A H : ℕ) → A ≡ 2 ^ net .nodes - 1 → H ≡ spread (net .nodes) (avoiding Sure net 0) (net .nodes) J → has H door ≡ true → A ≡ closure net door J
+pub closure-whole : (net : Net) (door J A H : ℕ) → A ≡ 2 ^ net .nodes - 1 → H ≡ held net J → has H door ≡ true → A ≡ closure net door J
 unfolding closure
 closure-whole net door J A H a h d =
     let small : A < 2 ^ net .nodes = omega (arith, pow-pos (net .nodes)) in
     is-collect (net .nodes) (net .nodes) A (λ v. has (held net J) door || not (has (outside net door (held net J)) v)) (omega arith) small
-    (λ v l. ap (λ q. has q v) a ∙ has-first (net .nodes) v ∙ lt-ltb v (net .nodes) l ∙ sym (ap (λ t. t || not (has (outside net door (held net J)) v)) (sym (ap (λ q. has q door) (h ∙ held-is net J)) ∙ d)))
+    (λ v l. ap (λ q. has q v) a ∙ has-first (net .nodes) v ∙ lt-ltb v (net .nodes) l ∙ sym (ap (λ t. t || not (has (outside net door (held net J)) v)) (sym (ap (λ q. has q door) h) ∙ d)))
     (λ v l. within-mask (net .nodes) A v small l)
 
-pub closure-rest : (net : Net) → Legal net → (door J A H s O D : ℕ) → A ≡ 2 ^ net .nodes - 1 → H ≡ spread (net .nodes) (avoiding Sure net 0) (net .nodes) J → has H door ≡ false
-    → s ≡ single door → O ≡ spread (net .nodes) (avoiding Present net H) (net .nodes) s → D ≡ collect 32 (λ v. has A v && not (has O v)) → D ≡ closure net door J
+pub closure-rest : (net : Net) → Legal net → (door J A H O D : ℕ) → A ≡ 2 ^ net .nodes - 1 → H ≡ held net J → has H door ≡ false
+    → O ≡ outside net door H → D ≡ collect 32 (λ v. has A v && not (has O v)) → D ≡ closure net door J
 unfolding closure
-closure-rest net legal door J A H s O D a h d e o q =
-    let h′ : H ≡ held net J = h ∙ held-is net J in
-    let o′ : O ≡ outside net door (held net J) = o ∙ ap (spread (net .nodes) (avoiding Present net H) (net .nodes)) e ∙ outside-is net door H ∙ ap (outside net door) h′ in
+closure-rest net legal door J A H O D a h d o q =
     q ∙ others-is (net .nodes) A O (legal .nodes) a
     ∙ collect-same (net .nodes) _ (λ v. has (held net J) door || not (has (outside net door (held net J)) v))
-    (λ v l. ap (λ x. not (has x v)) o′ ∙ sym (ap (λ t. t || not (has (outside net door (held net J)) v)) (sym (ap (λ x. has x door) h′) ∙ d)))
+    (λ v l. ap (λ x. not (has x v)) (o ∙ ap (outside net door) h) ∙ sym (ap (λ t. t || not (has (outside net door (held net J)) v)) (sym (ap (λ x. has x door) h) ∙ d)))
 
 -- one branch more of a branch set
 pub crossing-is : (net : Net) (K k : ℕ) (b : Branch) → nth (net .branches) k ≡ Some b → crossing net K k ≡ parts K b

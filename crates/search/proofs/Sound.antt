@@ -125,7 +125,6 @@ module _ {net : Net} {head door : ℕ} (legal : Legal net) (aim : Aim net head d
   )
 
   pub start : Inv net head door (aimed net head door)
-  unfolding aimed
   start = record {
     good = (first-good, tt);
     once = λ K k. omega (arith, hit-in net K (first-row net head door) (first-all K k));

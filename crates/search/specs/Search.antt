@@ -141,7 +141,7 @@ abbrev pub first-row : Net → ℕ → ℕ → Row
 first-row net head door = record { inside = closure net door (single head); barred = single door }
 
 -- the search of an accepted aim, before its first try
-unfoldable pub aimed : Net → ℕ → ℕ → Search
+abbrev pub aimed : Net → ℕ → ℕ → Search
 aimed net head door = record { rows = first-row net head door ∷ []; tries = 0 }
 
 -- one try, where the status allows one

@@ -19,7 +19,7 @@ use Rattle.search.specs.declared.plan.Try.{Try}
 use Rattle.search.specs.declared.plan.Next.{Next}
 use Rattle.search.specs.declared.plan.Next.the-variants.{Finish, Fill, Go}
 use Rattle.search.specs.Cuts.{branch, is-able, is-present, is-working}
-use Rattle.search.specs.Search.{single, share, touches, closure, row-at, open-row, lowest-candidate, current, status}
+use Rattle.search.specs.Search.{single, share, touches, closure, row-at, open-row, lowest-candidate, current, room, status}
 use Rattle.search.specs.Tables.{barred-at}
 
 -- whether a branch of this condition may be used
@@ -81,7 +81,7 @@ applied t rows = barred-at (t .row) (t .node) rows ++ listed (t .written)
 -- the row is there, and a row to be written finds room
 abbrev pub Fits : Option Row → ℕ → Type 0
 Fits None n = Unit {0}
-Fits (Some r) n = n < 512
+Fits (Some r) n = n < room
 
 abbrev pub Room : Try → ℕ → Type 0
 Room t n = (t .row < n) × Fits (t .written) n

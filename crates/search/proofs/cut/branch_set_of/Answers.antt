@@ -1,6 +1,7 @@
 use Prim.Native.Nat.{_<_}
-use mathlib.Core.Path.{sym, _∙_}
+use mathlib.Core.Path.{_≡_, sym, _∙_}
 use native.Mathlib.Omega.{arith}
+use borrow.Author.Needs.{needs}
 use lib.ListN.{length}
 use Rattle.sets.proofs.Nth.{some-below}
 use Rattle.sets.proofs.Shifts.{collect-none, collect-no}
@@ -10,7 +11,7 @@ use Rattle.search.proofs.cut.branch_set_of.Needs.{in-Some-b·then-is-parted, i
 use Rattle.search.proofs.cut.branch_set_of.Needs as need
 
 pub loop-k-holds : need.loop-k-holds
-loop-k-holds g c = sym (collect-none _)
+loop-k-holds g c = search (needs, collect-none)
 
 pub loop-k-again : need.loop-k-again
 loop-k-again g c =
@@ -28,4 +29,4 @@ loop-k-again g c =
     ]
 
 pub returns : need.returns
-returns g c = branch-set-is _ (c .args .row) (c .loop-k .k) _ (omega arith) (c .loop-k .inv)
+returns g c = search (needs, branch-set-is)

@@ -1,4 +1,3 @@
-use native.Mathlib.Omega.{arith}
 use borrow.Author.Needs.{needs}
 use Rattle.search.proofs.Tables.{length-rows, bar-written}
 use Rattle.search.proofs.table.Table.bar.Needs as need
@@ -7,6 +6,4 @@ pub offset-self-k : need.offset-self-k
 offset-self-k c = let n = length-rows (c .args .self .now) in search needs
 
 pub returns : need.returns
-returns c =
-    let t = c .args .self .now in
-    bar-written t (c .args .k) (c .args .v) (c .single .result) (omega (arith, length-rows t)) (c .single .ensures)
+returns c = let n = length-rows (c .args .self .now) in search (needs, bar-written)

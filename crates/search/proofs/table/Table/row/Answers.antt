@@ -1,8 +1,9 @@
-use Rattle.search.proofs.Tables.{row-some, row-none}
+use borrow.Author.Needs.{needs}
+use Rattle.search.proofs.Tables.{length-rows, row-some, row-none}
 use Rattle.search.proofs.table.Table.row.Needs as need
 
-pub returns-then-k-self : need.returns-then-k-self
-returns-then-k-self c = row-some (c .args .self .now) (c .args .k) (c .if-k-self .taken)
+pub returns-then-k-len : need.returns-then-k-len
+returns-then-k-len c = let n = length-rows (c .args .self .now) in search (needs, row-some)
 
-pub returns-else-k-self : need.returns-else-k-self
-returns-else-k-self c = row-none (c .args .self .now) (c .args .k) (c .if-k-self .left)
+pub returns-else-k-len : need.returns-else-k-len
+returns-else-k-len c = let n = length-rows (c .args .self .now) in search (needs, row-none)

@@ -1,9 +1,9 @@
+// How a table changes.
 ghost use Prim.Native.Nat.{_<_};
 ghost use mathlib.Core.Path.{_≡_};
 ghost use mathlib.Core.List.{[], _∷_, _++_};
-ghost use lib.Dec.{leb};
 ghost use lib.ListN.{length};
-ghost use Rattle.std.specs.Finite.{nth};
+ghost use Rattle.search.specs.Search.{room};
 ghost use Rattle.search.specs.Tables.{rows-of, barred-at};
 use crate::row::Row;
 use crate::table::Table;
@@ -25,24 +25,6 @@ impl Table {
         }
     }
 
-    // How many rows are written.
-    pub fn len(&self) -> usize
-        ensures { λ r. ⌜ r ≡ length (rows-of (now (self .entry))) ⌝ }
-    {
-        self.count
-    }
-
-    // Row k; a number at or past the count has no row.
-    pub fn row(&self, k: usize) -> Option<Row>
-        ensures { λ r. ⌜ r ≡ nth (rows-of (now (self .entry))) k ⌝ }
-    {
-        if k < self.count {
-            Some(self.rows[k])
-        } else {
-            None
-        }
-    }
-
     // Removes all rows.
     pub fn clear(&mut self)
         ensures { λ _. ⌜ rows-of (now (self .exit)) ≡ [] ⌝ }
@@ -58,16 +40,9 @@ impl Table {
         self.push(row);
     }
 
-    // Whether there is no room for another row.
-    pub(crate) fn is_full(&self) -> bool
-        ensures { λ r. ⌜ r ≡ leb 512 (length (rows-of (now (self .entry)))) ⌝ }
-    {
-        self.len() >= 512
-    }
-
     // One row more, after the others.
     pub(crate) fn push(&mut self, row: Row)
-        requires { ⌜ length (rows-of (now self)) < 512 ⌝ }
+        requires { ⌜ length (rows-of (now self)) < room ⌝ }
         ensures { λ _. ⌜ rows-of (now (self .exit)) ≡ rows-of (now (self .entry)) ++ (row ∷ []) ⌝ }
     {
         let at = self.count;
