@@ -11,7 +11,7 @@ use Rattle.std.proofs.shelf.Lists.{length-take-le, getD-take, take-append-drop,
 use Rattle.std.proofs.shelf.Maps.{nth-getD, nth-past}
 use Rattle.search.specs.declared.row.Row.{Row}
 use Rattle.search.specs.declared.table.Table.{Table}
-use Rattle.search.specs.Search.{single, row-at}
+use Rattle.search.specs.Search.{single, row-at, room}
 use Rattle.search.specs.Tables.{rows-of, barred-at}
 
 abbrev blank : Row
@@ -23,6 +23,9 @@ joined r m = record { inside = r .inside; barred = bitOr (r .barred) m }
 
 pub length-rows : (t : Table) → length (rows-of t) ≡ t .count
 length-rows t = length-take-le (t .count) (t .rows) (omega (arith, t .few, t .whole))
+
+pub few-rows : (t : Table) → length (rows-of t) ≤ room
+few-rows t = omega (arith, length-rows t, t .few)
 
 -- a write below n is seen by the first n
 take-set-lt : {X : Type 0} (n : ℕ) (xs : List X) (i : ℕ) (x : X) → i < n → n ≤ length xs → take n (set xs i x) ≡ set (take n xs) i x
