@@ -1,7 +1,7 @@
 use mathlib.Core.Path.{ap}
 use native.Mathlib.Omega.{arith}
+use borrow.Author.Needs.{needs}
 use Rattle.search.specs.Search.{Search}
-use Rattle.search.specs.Tables.{rows-of}
 use Rattle.engine.proofs.Steps.{progress-is, still-paid, sum-fits}
 use Rattle.engine.proofs.study.Study.try_up_to.Needs as need
 
@@ -22,6 +22,6 @@ returns g c =
     let s = c .args .self .now in
     let p = c .run-tries-tries in
     record {
-      answer = progress-is (g .N·Network .net (c .args .network .now)) (c .args .door) (c .args .budget) (rows-of (s .table)) (rows-of (p .last .table)) (s .tries) (p .result) _ _ (p .ensures (s .tries)) (c .len .ensures) (c .status-of .ensures);
+      answer = let made = p .ensures (s .tries) in search (needs, progress-is);
       state = ap (λ (u : Search). record { head = s .head; door = s .door; search = u }) (p .ensures (s .tries));
     }
