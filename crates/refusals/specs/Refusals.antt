@@ -11,7 +11,7 @@ use Rattle.refusals.specs.declared.layer.Refusal.{Refusal}
 use Rattle.refusals.specs.declared.network_fault.NetworkFault.{NetworkFault}
 use Rattle.refusals.specs.declared.network_fault.NetworkFault.the-variants.{NodeCount, BranchCount, BadEnd, BadRating}
 use Rattle.refusals.specs.declared.study_fault.StudyFault.{StudyFault}
-use Rattle.refusals.specs.declared.study_fault.StudyFault.the-variants.{Network, Head}
+use Rattle.refusals.specs.declared.study_fault.StudyFault.the-variants.{Network, Head, Door, DoorIsHead, Unjoined, Inseparable, NoAim, Budget, NoRow}
 use Rattle.refusals.specs.declared.deck_fault.DeckFault.{DeckFault}
 use Rattle.refusals.specs.declared.deck_fault.DeckFault.the-variants.{Study, Table, Bytes, Word, Turn, Numbers, Mark}
 use Rattle.refusals.specs.declared.deck_fault.DeckRefusal.{DeckRefusal}
@@ -23,10 +23,21 @@ networkRefusal BranchCount = record { number = 2; layer = layers.Network; place 
 networkRefusal (BadEnd k) = record { number = 3; layer = layers.Network; place = k }
 networkRefusal (BadRating k) = record { number = 4; layer = layers.Network; place = k }
 
+-- a refusal of the study's own, which is about no branch
+abbrev pub ownRefusal : ℕ → Refusal
+ownRefusal n = record { number = n; layer = layers.Study; place = 0 }
+
 -- a study's faults: layer S; a fault from below keeps what it says
 abbrev pub studyRefusal : StudyFault → Refusal
 studyRefusal (Network f) = networkRefusal f
-studyRefusal Head = record { number = 5; layer = layers.Study; place = 0 }
+studyRefusal Head = ownRefusal 5
+studyRefusal Door = ownRefusal 6
+studyRefusal DoorIsHead = ownRefusal 7
+studyRefusal Unjoined = ownRefusal 8
+studyRefusal Inseparable = ownRefusal 9
+studyRefusal NoAim = ownRefusal 10
+studyRefusal Budget = ownRefusal 11
+studyRefusal NoRow = ownRefusal 12
 
 -- a deck's faults: layer D; a fault from below keeps what it says
 abbrev pub deckRefusal : DeckFault → Refusal

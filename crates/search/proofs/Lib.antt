@@ -1,0 +1,17 @@
+pub mod Singles
+pub mod Chains
+pub mod Spread
+pub mod Links
+pub mod Beside
+pub mod Sides
+pub mod Cuts
+pub mod Complete
+pub mod Shares
+pub mod Sound
+pub mod Portions
+pub mod Doors
+pub mod Walks
+pub mod RowSets
+pub mod Tables
+pub mod Plans
+pub mod Paid
