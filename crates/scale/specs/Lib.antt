@@ -5,3 +5,4 @@ pub mod Quotients
 pub mod Billionths
 pub mod Form
 pub mod NineFigures
+pub mod Worked

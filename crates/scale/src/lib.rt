@@ -5,6 +5,8 @@ use network::rating::Rating;
 
 pub mod billionths;
 pub mod nine_figures;
+pub mod worked;
+pub mod worked_cases;
 
 // A set of chances and its arithmetic. No operation refuses anything.
 pub trait Scale {
