@@ -1,0 +1,3 @@
+// Bounds on the chance that a door is cut off, in any scale.
+pub mod bounds;
+mod products;
