@@ -6,6 +6,7 @@ ghost use Prim.Native.Nat.{_<_};
 ghost use lib.Bits.{bitOr};
 ghost use lib.ListN.{length, getD, take};
 ghost use Rattle.chance.specs.Bounds.{larger, addedUp, low as lowOf, high as highOf};
+ghost use Rattle.chance.specs.Bracket.{Brackets, Narrowing};
 use crate::products::product_down;
 use crate::products::product_up;
 use network::traits::RatedNetwork;
@@ -50,6 +51,7 @@ pub fn bounds_of<S: Scale, N: RatedNetwork>(
 ) -> Bounds<S::Num>
     ensures low { λ r. ⌜ r .low ≡ lowOf (S·Scale .arithmetic) (N·RatedNetwork .rated (now (network .entry)) .ratings) (now (rows .entry)) ⌝ }
     ensures high { λ r. ⌜ r .high ≡ highOf (S·Scale .arithmetic) (N·RatedNetwork .rated (now (network .entry)) .ratings) finished (now (rows .entry)) ⌝ }
+    ensures bracket { λ r. ⌜ Brackets (S·Scale .arithmetic) (N·RatedNetwork .rated (now (network .entry))) (now (rows .entry)) finished (r .low) (r .high) ⌝ }
 {
     let mut s1 = S::zero();
     let mut s2 = S::zero();
@@ -65,4 +67,11 @@ pub fn bounds_of<S: Scale, N: RatedNetwork>(
         high = S::one();
     }
     Bounds { low, high }
+}
+
+// More rows only narrow the bounds, in every scale with numbers of type T.
+pub fn bounds_narrow<T>() -> bool
+    ensures { λ _. ⌜ Narrowing T ⌝ }
+{
+    true
 }

@@ -1,5 +1,6 @@
-use mathlib.Core.Path.{_∙_}
-use Rattle.chance.specs.Bounds.{low, addedUp}
+use mathlib.Core.Path.{_≡_, _∙_}
+use Rattle.chance.specs.Bounds.{low, high, addedUp}
+use Rattle.chance.proofs.Enclosed.{brackets}
 use Rattle.chance.proofs.RowSteps.{added-none, rows-none, pairs-none, low-none, rows-more, pairs-more, low-more, high-more, all-rows, high-finished, high-before}
 use Rattle.chance.proofs.bounds.bounds_of.Needs as need
 use Rattle.chance.proofs.bounds.bounds_of.Needs.{then-not-finished, else-not-finished}
@@ -37,10 +38,13 @@ returns g c =
     let rows = c .args .rows .now in
     let finished = c .args .finished in
     let h = c .loop-j-test .left in
+    let is-low = all-rows s ratings (low s ratings) rows (c .loop-j .j) h (c .loop-j .inv .2) in
+    let is-high : c .if-not-finished .high ≡ high s ratings finished rows = elim (c .if-not-finished .came) [
+      | then-not-finished w ↦ high-before s ratings finished rows (w .if-not-finished .taken) (w .high-is ∙ w .one-high .ensures)
+      | else-not-finished w ↦ high-finished s ratings finished rows (w .if-not-finished .left) (w .high-is ∙ all-rows s ratings (addedUp s ratings (s .zero)) rows (c .loop-j .j) h (c .loop-j .inv .3))
+    ] in
     record {
-      low = all-rows s ratings (low s ratings) rows (c .loop-j .j) h (c .loop-j .inv .2);
-      high = elim (c .if-not-finished .came) [
-        | then-not-finished w ↦ high-before s ratings finished rows (w .if-not-finished .taken) (w .high-is ∙ w .one-high .ensures)
-        | else-not-finished w ↦ high-finished s ratings finished rows (w .if-not-finished .left) (w .high-is ∙ all-rows s ratings (addedUp s ratings (s .zero)) rows (c .loop-j .j) h (c .loop-j .inv .3))
-      ];
+      bracket = brackets s (g .S·Scale·met .rounded) (g .N·RatedNetwork .rated (c .args .network .now)) (g .N·RatedNetwork .legal (c .args .network .now)) rows finished _ _ is-low is-high;
+      low = is-low;
+      high = is-high;
     }
