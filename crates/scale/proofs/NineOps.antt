@@ -1,12 +1,11 @@
 -- The arithmetic of nine figures: each exact result has the value of one decimal fraction, or lies beside one.
-use mathlib.Core.Path.{_≡_, sym, ap, _∙_}
+use mathlib.Core.Bool.{Bool, true, false}
+use mathlib.Core.Path.{_≡_, refl, sym, ap, ap₂, _∙_}
 use Prim.Native.Nat.{ℕ, _+_, _-_, _*_, _^_, _≤_, _<_}
 use native.Mathlib.Nat.{mul-le-mul-right, mul-le-mul-left, mul-lt-mul-of-pos-right, mul-sub, mul-pos, pow-le-pow-right}
 use native.Mathlib.Omega.{arith}
-use mathlib.Core.Logic.{⊎-elim}
-use lib.Dec.{leb, ltb}
 use lib.Pow.{pow-add}
-use Rattle.std.proofs.shelf.Tests.{cases-lt, le-leb, lt-leb, lt-ltb, le-ltb}
+use Rattle.std.proofs.shelf.Tests.{le-leb, lt-leb}
 use Rattle.scale.specs.Fractions.{Fraction, _≤ᶠ_, _=ᶠ_, _+ᶠ_, _-ᶠ_, _×ᶠ_, decimal, whole}
 use Rattle.scale.specs.NineFigures.{worth, nought, unit, floor, ceiling, nineFigures}
 use Rattle.scale.specs.Arithmetic.{chance}
@@ -37,11 +36,13 @@ module _ (x : Decimal) (by : Rating) where
       let e = ap (λ n. x .figures * by .mantissa * n) (pow-add 10 (x .exponent) (by .exponent)) in
       omega arith
 
-  pub times-floor : floor (decimal (x .figures * by .mantissa) (x .exponent + by .exponent)) ≡ floor (worth x ×ᶠ chance by)
-  times-floor = floor-same (decimal (x .figures * by .mantissa) (x .exponent + by .exponent)) (worth x ×ᶠ chance by) times-same
+  pub times-floor : (m e : ℕ) → m ≡ x .figures * by .mantissa → e ≡ x .exponent + by .exponent → floor (decimal m e) ≡ floor (worth x ×ᶠ chance by)
+  times-floor m e p q =
+      ap₂ (λ m e. floor (decimal m e)) p q ∙ floor-same (decimal (x .figures * by .mantissa) (x .exponent + by .exponent)) (worth x ×ᶠ chance by) times-same
 
-  pub times-ceiling : ceiling (decimal (x .figures * by .mantissa) (x .exponent + by .exponent)) ≡ ceiling (worth x ×ᶠ chance by)
-  times-ceiling = ceiling-same (decimal (x .figures * by .mantissa) (x .exponent + by .exponent)) (worth x ×ᶠ chance by) times-same
+  pub times-ceiling : (m e : ℕ) → m ≡ x .figures * by .mantissa → e ≡ x .exponent + by .exponent → ceiling (decimal m e) ≡ ceiling (worth x ×ᶠ chance by)
+  times-ceiling m e p q =
+      ap₂ (λ m e. ceiling (decimal m e)) p q ∙ ceiling-same (decimal (x .figures * by .mantissa) (x .exponent + by .exponent)) (worth x ×ᶠ chance by) times-same
 
 module _ (x y : Decimal) where
   -- a sum with 0, and the sum the other way round
@@ -151,21 +152,18 @@ module _ (x y : Decimal) where
       let s = shorter (x .figures) (x .exponent) (y .figures) (y .exponent) (x .form .0) (some-figures y i) lt in less-none (omega arith)
 
   -- the order
-  pub same-exponent : x .exponent ≡ y .exponent → leb (x .figures) (y .figures) ≡ nineFigures .atMost x y
-  same-exponent e =
-      let p = pow-positive (y .exponent) in
-      ⊎-elim
-      (λ (z : y .figures < x .figures). lt-leb _ _ z ∙ sym (lt-leb _ _ (rw e (mul-lt-mul-of-pos-right z p))))
-      (λ (z : x .figures ≤ y .figures). le-leb _ _ z ∙ sym (le-leb _ _ (rw e (mul-le-mul-right (10 ^ y .exponent) z))))
-      (cases-lt (y .figures) (x .figures))
+  -- a test that tells the order
+  order-is : (b : Bool) → (b ≡ true → worth x ≤ᶠ worth y) → (b ≡ false → worth y <ᶠ worth x) → b ≡ nineFigures .atMost x y
+  order-is true h k = sym (le-leb _ _ (h refl))
+  order-is false h k = sym (lt-leb _ _ (k refl))
 
-  pub other-exponent : 0 < x .figures → 0 < y .figures → (x .exponent ≡ y .exponent → ⊥) → ltb (y .exponent) (x .exponent) ≡ nineFigures .atMost x y
-  other-exponent i j ne =
-      ⊎-elim
-      (λ (z : y .exponent < x .exponent).
-      let s = shorter (x .figures) (x .exponent) (y .figures) (y .exponent) (x .form .0) (some-figures y j) z in
-      lt-ltb _ _ z ∙ sym (le-leb _ _ (omega arith)))
-      (λ (z : x .exponent ≤ y .exponent).
-      let s = shorter (y .figures) (y .exponent) (x .figures) (x .exponent) (y .form .0) (some-figures x i) (omega arith) in
-      le-ltb _ _ z ∙ sym (lt-leb _ _ s))
-      (cases-lt (y .exponent) (x .exponent))
+  pub same-exponent : (b : Bool) → (b ≡ true → x .figures ≤ y .figures) → (b ≡ false → y .figures < x .figures) → x .exponent ≡ y .exponent → b ≡ nineFigures .atMost x y
+  same-exponent b h k e =
+      let p = pow-positive (y .exponent) in
+      order-is b (λ t. rw e (mul-le-mul-right (10 ^ y .exponent) (h t))) (λ t. rw e (mul-lt-mul-of-pos-right (k t) p))
+
+  pub other-exponent : (b : Bool) → (b ≡ true → y .exponent < x .exponent) → (b ≡ false → x .exponent < y .exponent) → 0 < x .figures → 0 < y .figures → b ≡ nineFigures .atMost x y
+  other-exponent b h k i j =
+      order-is b
+      (λ t. let s = shorter (x .figures) (x .exponent) (y .figures) (y .exponent) (x .form .0) (some-figures y j) (h t) in omega arith)
+      (λ t. shorter (y .figures) (y .exponent) (x .figures) (x .exponent) (y .form .0) (some-figures x i) (k t))

@@ -1,5 +1,5 @@
 -- The steps by which m / 10^e is brought to nine figures.
-use mathlib.Core.Path.{_≡_, refl, ap, _∙_}
+use mathlib.Core.Path.{_≡_, refl, ap, ap₂, _∙_}
 use mathlib.Core.Logic.{⊎-elim}
 use Prim.Native.Nat.{ℕ, _+_, _-_, _*_, _/_, _%_, _^_, _≤_, _<_}
 use native.Mathlib.Nat.{mul-le-mul-right, mul-le-mul-left, mul-lt-mul-of-pos-right, div-add-mod', mod-lt, pow-le-pow-right}
@@ -45,16 +45,16 @@ module _ (m e : ℕ) where
   ten-less h = let s : e ≡ (e - 1) + 1 = omega arith in ap (λ k. 10 ^ k) s ∙ ten-more (e - 1)
 
   -- one figure less
-  pub floor-shorter : 1000000000 ≤ m → 0 < e → floor (decimal (m / 10) (e - 1)) ≡ floor (decimal m e)
-  floor-shorter h i =
+  cut-figure : 1000000000 ≤ m → 0 < e → floor (decimal (m / 10) (e - 1)) ≡ floor (decimal m e)
+  cut-figure h i =
       let t = ten-less i in
       let p = mul-le-mul-right (10 ^ (e - 1)) (let l : m / 10 * 10 ≤ m = omega arith in l) in
       let q = mul-le-mul-right (10 ^ (e - 1)) (let l : m + 1 ≤ (m / 10 + 1) * 10 = omega arith in l) in
       let r = decimal m (e - 1) .above-zero in
       floor-step (decimal m e) (m / 10) (e - 1) (omega arith) (rw t (omega arith)) (rw t (omega arith))
 
-  pub ceiling-shorter : 1000000000 ≤ m → 0 < e → ceiling (decimal (ceilDiv m 10) (e - 1)) ≡ ceiling (decimal m e)
-  ceiling-shorter h i =
+  round-figure : 1000000000 ≤ m → 0 < e → ceiling (decimal (ceilDiv m 10) (e - 1)) ≡ ceiling (decimal m e)
+  round-figure h i =
       let t = ten-less i in
       let c = 10 ^ (e - 1) in
       let p = mul-le-mul-right c (let l : m ≤ ceilDiv m 10 * 10 = ceil-above m 10 (omega arith) in l) in
@@ -68,6 +68,13 @@ module _ (m e : ℕ) where
       let s : m ≡ 1000000000 = omega arith in
       rw s (ceiling-same (decimal 100000000 (e - 1)) (decimal 1000000000 e) (rw t (omega arith))))
       (cases-lt 1000000000 m)
+
+  -- the same of the figures and the exponent that a step leaves
+  pub floor-shorter : (n f : ℕ) → n ≡ m / 10 → f ≡ e - 1 → 1000000000 ≤ m → 0 < e → floor (decimal n f) ≡ floor (decimal m e)
+  floor-shorter n f p q h i = ap₂ (λ n f. floor (decimal n f)) p q ∙ cut-figure h i
+
+  pub ceiling-shorter : (n f : ℕ) → n ≡ ceilDiv m 10 → f ≡ e - 1 → 1000000000 ≤ m → 0 < e → ceiling (decimal n f) ≡ ceiling (decimal m e)
+  ceiling-shorter n f p q h i = ap₂ (λ n f. ceiling (decimal n f)) p q ∙ round-figure h i
 
   from-one : 100000000 ≤ m → e ≤ 8 → whole 1 ≤ᶠ decimal m e
   from-one h i = let p : 10 ^ e ≤ 10 ^ 8 = pow-le-pow-right {n = 10} (omega arith) i in omega arith

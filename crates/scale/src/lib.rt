@@ -5,6 +5,7 @@ use network::rating::Rating;
 
 pub mod billionths;
 pub mod nine_figures;
+mod powers;
 pub mod worked;
 pub mod worked_cases;
 

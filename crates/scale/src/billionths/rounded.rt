@@ -1,14 +1,41 @@
 // The arithmetic of billionths, and how they are printed.
+ghost use mathlib.Core.Path.{_≡_};
+ghost use Prim.Native.Nat.{_+_, _*_, _/_, _^_, min};
 ghost use Rattle.std.specs.Written.{decimal};
 ghost use Rattle.std.specs.declared.option.Option.the-variants.{Some};
 ghost use Rattle.scale.specs.Billionths.{billionths};
+ghost use Rattle.scale.specs.Quotients.{ceilDiv};
 use crate::Scale;
 use crate::billionths::Billionth;
 use crate::billionths::Billionths;
+use crate::powers::ten_to;
 use network::rating::Rating;
 use std::fmt;
 
 const ONE: u64 = 1_000_000_000;
+
+// The units of a product, rounded down.
+fn units_down(x: Billionth, by: Rating) -> u64
+    ensures { λ r. ⌜ r ≡ x .units * by .mantissa / 10 ^ by .exponent ⌝ }
+{
+    x.units * by.mantissa as u64 / ten_to(by.exponent)
+}
+
+// The units of a product, rounded up.
+fn units_up(x: Billionth, by: Rating) -> u64
+    ensures { λ r. ⌜ r ≡ ceilDiv (x .units * by .mantissa) (10 ^ by .exponent) ⌝ }
+{
+    (x.units * by.mantissa as u64).div_ceil(ten_to(by.exponent))
+}
+
+// A sum is exact, or held at 1.
+fn held_sum(x: Billionth, y: Billionth) -> Billionth
+    ensures { λ r. ⌜ r .units ≡ min (x .units + y .units) 1000000000 ⌝ }
+{
+    Billionth {
+        units: (x.units + y.units).min(ONE),
+    }
+}
 
 pub impl Scale for Billionths as BillionthsScale {
     type Num = Billionth;
@@ -24,30 +51,23 @@ pub impl Scale for Billionths as BillionthsScale {
     }
 
     fn times_down(x: Billionth, by: Rating) -> Billionth {
-        let exact = x.units * by.mantissa as u64;
         Billionth {
-            units: exact / 10u64.pow(by.exponent),
+            units: units_down(x, by),
         }
     }
 
     fn times_up(x: Billionth, by: Rating) -> Billionth {
-        let exact = x.units * by.mantissa as u64;
         Billionth {
-            units: exact.div_ceil(10u64.pow(by.exponent)),
+            units: units_up(x, by),
         }
     }
 
     fn sum_down(x: Billionth, y: Billionth) -> Billionth {
-        Billionth {
-            units: (x.units + y.units).min(ONE),
-        }
+        held_sum(x, y)
     }
 
-    // A sum of billionths is exact, or held at 1.
     fn sum_up(x: Billionth, y: Billionth) -> Billionth {
-        Billionth {
-            units: (x.units + y.units).min(ONE),
-        }
+        held_sum(x, y)
     }
 
     fn less_down(x: Billionth, y: Billionth) -> Billionth {

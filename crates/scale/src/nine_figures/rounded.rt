@@ -1,7 +1,7 @@
 // The arithmetic of nine figures, and how they are printed.
 ghost use mathlib.Core.List.{_++_};
 ghost use mathlib.Core.Path.{_≡_};
-ghost use Prim.Native.Nat.{_≤_};
+ghost use Prim.Native.Nat.{_+_, _-_, _*_, _^_, _≤_};
 ghost use lib.Chars.{codes};
 ghost use Rattle.std.specs.Written.{decimal};
 ghost use Rattle.std.specs.declared.option.Option.the-variants.{Some};
@@ -14,6 +14,7 @@ use crate::nine_figures::rounding::nought;
 use crate::nine_figures::rounding::round_down;
 use crate::nine_figures::rounding::round_up;
 use crate::nine_figures::rounding::unit;
+use crate::powers::ten_to;
 use network::rating::Rating;
 use std::fmt;
 
@@ -23,17 +24,31 @@ const SUM_GAP: u32 = 9;
 // Past this gap a difference takes less than a tenth of a unit of the ninth figure.
 const LESS_GAP: u32 = 10;
 
+// The sum of two numbers, over 10 to the second exponent.
+fn exact_sum(x: Decimal, y: Decimal) -> u64
+    requires { ⌜ x .exponent ≤ y .exponent ⌝ ∗ ⌜ y .exponent ≤ x .exponent + 9 ⌝ }
+    ensures { λ r. ⌜ r ≡ x .figures * 10 ^ (y .exponent - x .exponent) + y .figures ⌝ }
+{
+    x.figures * ten_to(y.exponent - x.exponent) + y.figures
+}
+
+// Their difference, over 10 to the second exponent; 0 where it would be negative.
+fn exact_difference(x: Decimal, y: Decimal) -> u64
+    requires { ⌜ x .exponent ≤ y .exponent ⌝ ∗ ⌜ y .exponent ≤ x .exponent + 10 ⌝ }
+    ensures { λ r. ⌜ r ≡ x .figures * 10 ^ (y .exponent - x .exponent) - y .figures ⌝ }
+{
+    (x.figures * ten_to(y.exponent - x.exponent)).saturating_sub(y.figures)
+}
+
 // The sum of a number above 0 and one with no smaller exponent, rounded down.
 fn add_down(x: Decimal, y: Decimal) -> Decimal
     requires { ⌜ 100000000 ≤ x .figures ⌝ ∗ ⌜ x .exponent ≤ y .exponent ⌝ }
     ensures { λ r. ⌜ r ≡ floor (worth x +ᶠ worth y) ⌝ }
 {
-    let gap = y.exponent - x.exponent;
-    if gap > SUM_GAP {
+    if y.exponent - x.exponent > SUM_GAP {
         return x;
     }
-    let exact = x.figures * 10u64.pow(gap) + y.figures;
-    round_down(exact, y.exponent)
+    round_down(exact_sum(x, y), y.exponent)
 }
 
 // The sum of two numbers above 0, of which the second has no smaller exponent, rounded up.
@@ -41,12 +56,10 @@ fn add_up(x: Decimal, y: Decimal) -> Decimal
     requires { ⌜ 100000000 ≤ x .figures ⌝ ∗ ⌜ 100000000 ≤ y .figures ⌝ ∗ ⌜ x .exponent ≤ y .exponent ⌝ }
     ensures { λ r. ⌜ r ≡ ceiling (worth x +ᶠ worth y) ⌝ }
 {
-    let gap = y.exponent - x.exponent;
-    if gap > SUM_GAP {
+    if y.exponent - x.exponent > SUM_GAP {
         return round_up(x.figures + 1, x.exponent);
     }
-    let exact = x.figures * 10u64.pow(gap) + y.figures;
-    round_up(exact, y.exponent)
+    round_up(exact_sum(x, y), y.exponent)
 }
 
 pub impl Scale for NineFigures as NineFiguresScale {
@@ -106,12 +119,10 @@ pub impl Scale for NineFigures as NineFiguresScale {
         if x.exponent > y.exponent {
             return nought();
         }
-        let gap = y.exponent - x.exponent;
-        if gap > LESS_GAP {
+        if y.exponent - x.exponent > LESS_GAP {
             return round_down(x.figures * 10 - 1, x.exponent + 1);
         }
-        let whole = x.figures * 10u64.pow(gap);
-        round_down(whole.saturating_sub(y.figures), y.exponent)
+        round_down(exact_difference(x, y), y.exponent)
     }
 
     fn at_most(x: Decimal, y: Decimal) -> bool {

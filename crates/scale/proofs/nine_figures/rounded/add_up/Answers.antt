@@ -6,9 +6,9 @@ use Rattle.scale.specs.NineFigures.{ceiling}
 use Rattle.scale.proofs.NineOps.{plus-near-ceiling, plus-far-ceiling}
 use Rattle.scale.proofs.nine_figures.rounded.add_up.Needs as need
 
-pub returns-then-gap-gt-SUM-GAP : need.returns-then-gap-gt-SUM-GAP
-returns-then-gap-gt-SUM-GAP c = c .round-up .ensures ∙ plus-far-ceiling (c .args .x) (c .args .y) (omega arith) (omega arith) (omega arith) (omega arith)
+pub returns-then-y-x-gt-SUM-GAP : need.returns-then-y-x-gt-SUM-GAP
+returns-then-y-x-gt-SUM-GAP c = c .round-up .ensures ∙ plus-far-ceiling (c .args .x) (c .args .y) (omega arith) (omega arith) (omega arith) (omega arith)
 
 pub returns : need.returns
 returns c =
-    c .round-up-2 .ensures ∙ ap (λ n. ceiling (decimal (c .args .x .figures * n + c .args .y .figures) (c .args .y .exponent))) (c .pow .ensures) ∙ plus-near-ceiling (c .args .x) (c .args .y) (omega arith)
+    c .round-up-2 .ensures ∙ ap (λ n. ceiling (decimal n (c .args .y .exponent))) (c .exact-sum .ensures) ∙ plus-near-ceiling (c .args .x) (c .args .y) (omega arith)

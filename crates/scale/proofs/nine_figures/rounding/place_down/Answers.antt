@@ -1,4 +1,4 @@
-use mathlib.Core.Path.{refl, _∙_}
+use mathlib.Core.Path.{_∙_}
 use native.Mathlib.Omega.{arith}
 use Rattle.scale.proofs.NineSteps.{floor-unit, floor-nought, floor-worth}
 use Rattle.scale.proofs.nine_figures.rounding.place_down.Needs as need

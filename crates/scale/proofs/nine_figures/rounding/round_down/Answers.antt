@@ -18,7 +18,7 @@ loop-m-holds c = (
 )
 
 pub loop-m-again : need.loop-m-again
-loop-m-again c = (omega arith, floor-shorter (c .loop-m .m) (c .loop-m .e) (omega arith) (omega arith) ∙ c .loop-m .inv .1)
+loop-m-again c = (omega arith, floor-shorter (c .loop-m .m) (c .loop-m .e) _ _ (omega arith) (omega arith) (omega arith) (omega arith) ∙ c .loop-m .inv .1)
 
 pub returns : need.returns
 returns c = c .place-down .ensures ∙ c .loop-m .inv .1

@@ -20,7 +20,7 @@ loop-m-holds c = (
 pub loop-m-again : need.loop-m-again
 loop-m-again c = (
   omega arith,
-  ap (λ n. ceiling (decimal n (c .loop-m .e - 1))) (c .div-ceil-m .ensures) ∙ ceiling-shorter (c .loop-m .m) (c .loop-m .e) (omega arith) (omega arith) ∙ c .loop-m .inv .1,
+  ceiling-shorter (c .loop-m .m) (c .loop-m .e) _ _ (omega arith) (omega arith) (omega arith) (omega arith) ∙ c .loop-m .inv .1,
 )
 
 pub returns : need.returns

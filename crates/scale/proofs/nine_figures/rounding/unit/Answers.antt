@@ -1,6 +1,6 @@
-use mathlib.Core.Path.{refl}
+use native.Mathlib.Omega.{arith}
 use Rattle.scale.proofs.NineForms.{same-decimal}
 use Rattle.scale.proofs.nine_figures.rounding.unit.Needs as need
 
 pub returns : need.returns
-returns c = same-decimal _ _ refl refl
+returns c = same-decimal _ _ (omega arith) (omega arith)

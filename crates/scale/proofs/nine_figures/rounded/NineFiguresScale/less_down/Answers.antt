@@ -16,11 +16,10 @@ returns-then-x-eq0 c = nothing-less-floor (c .args .x) (c .args .y) (c .if-x-eq0
 pub returns-then-x-y : need.returns-then-x-y
 returns-then-x-y c = c .nought .ensures ∙ smaller-less-floor (c .args .x) (c .args .y) (omega arith) (omega arith)
 
-pub returns-then-gap-gt-LESS-GAP : need.returns-then-gap-gt-LESS-GAP
-returns-then-gap-gt-LESS-GAP c =
+pub returns-then-y-x-gt-LESS-GAP : need.returns-then-y-x-gt-LESS-GAP
+returns-then-y-x-gt-LESS-GAP c =
     c .round-down .ensures ∙ less-far-floor (c .args .x) (c .args .y) (omega arith) (some-figures (c .args .x) (omega arith)) (omega arith) (omega arith)
 
 pub returns : need.returns
 returns c =
-    c .round-down-2 .ensures ∙ ap (λ n. floor (decimal n (c .args .y .exponent)))
-    (c .saturating-sub .ensures ∙ ap (λ p. c .args .x .figures * p - c .args .y .figures) (c .pow .ensures)) ∙ less-near-floor (c .args .x) (c .args .y) (omega arith)
+    c .round-down-2 .ensures ∙ ap (λ n. floor (decimal n (c .args .y .exponent))) (c .exact-difference .ensures) ∙ less-near-floor (c .args .x) (c .args .y) (omega arith)
