@@ -65,11 +65,11 @@ module _ (set : ℕ) where
     product-none n = none-more (has set k) (nth rs k) refl refl n
 
 module _ {Num : Type 0} (s : Arithmetic Num) (rs : List Rating) (set : ℕ) where
-  pub down-none : s .one ≡ productDown s (take 0 rs) set
+  pub down-none : s .one ≡ productDown s [] set
   unfolding productDown chosen
   down-none = refl
 
-  pub up-none : s .one ≡ productUp s (take 0 rs) set
+  pub up-none : s .one ≡ productUp s [] set
   unfolding productUp chosen
   up-none = refl
 

@@ -16,7 +16,7 @@ use Rattle.chance.specs.Bounds.{united, prefixes, addedUp, rowSum, pairSum, di
 use Rattle.chance.specs.CutOff.{AbleSet, cutOffChance}
 use Rattle.chance.specs.Bracket.{Grows, AreCuts, Complete, Brackets}
 use Rattle.chance.proofs.Risks.{Risk, AbleRisks, ratings-of}
-use Rattle.chance.proofs.Sums.{units, exact}
+use Rattle.chance.proofs.OverSets.{units, exact}
 use Rattle.chance.proofs.Masks.{T-true}
 use Rattle.chance.proofs.Ratios.{Under, Over}
 use Rattle.chance.proofs.Totals.{Growing, Cutting, Covering, all-united, exact-le, low-total, high-total}

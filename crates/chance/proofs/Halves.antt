@@ -9,7 +9,7 @@ use Rattle.sets.proofs.Members.{has-suc, has-zero}
 use Rattle.network.specs.declared.rating.Rating.{Rating}
 use Rattle.scale.specs.Arithmetic.{Arithmetic}
 use Rattle.chance.specs.Bounds.{chosen, productDown, productUp}
-use Rattle.chance.proofs.Sums.{first, halved}
+use Rattle.chance.proofs.OverSets.{first, halved}
 
 chosen-half : (set k : ℕ) (rs : List Rating) → chosen set (suc k) rs ≡ chosen (set / 2) k rs
 unfolding chosen

@@ -1,7 +1,7 @@
 pub mod Chosen
 pub mod RowSteps
 pub mod Risks
-pub mod Sums
+pub mod OverSets
 pub mod Halves
 pub mod Ratios
 pub mod Masks

@@ -13,7 +13,7 @@ use Rattle.sets.specs.Masks.{has, _∈_}
 use Rattle.sets.proofs.Members.{clash, has-suc, has-zero, has-none, has-or, has-and}
 use Rattle.chance.specs.CutOff.{Within}
 use Rattle.chance.proofs.Risks.{Risk, AbleRisks}
-use Rattle.chance.proofs.Sums.{first}
+use Rattle.chance.proofs.OverSets.{first}
 
 -- bit k of the half is bit k + 1
 pub half-shift : (z k : ℕ) → z / 2 / 2 ^ k ≡ z / 2 ^ suc k

@@ -15,7 +15,7 @@ use Rattle.network.specs.declared.rating.Rating.{Rating}
 use Rattle.network.specs.Meaning.{RatedNet, LegalRated}
 use Rattle.chance.specs.CutOff.{isAble, able, every, AbleSet, sumBelow, productBelow, just, denominators, cutOffChance}
 use Rattle.chance.proofs.Risks.{Risk, AbleAt, AbleRisks, unit, ratings-of}
-use Rattle.chance.proofs.Sums.{first, units, weight, able-set, over-sets, exact}
+use Rattle.chance.proofs.OverSets.{first, units, weight, able-set, over-sets, exact}
 use Rattle.chance.proofs.Masks.{T-true}
 use Rattle.chance.proofs.Plain.{each-set-once}
 

@@ -10,7 +10,7 @@ use native.Mathlib.Numerals.{add-one}
 use native.Mathlib.Omega.{arith}
 use Rattle.chance.proofs.Risks.{Risk, AbleRisks}
 use Rattle.chance.specs.CutOff.{sumBelow}
-use Rattle.chance.proofs.Sums.{first, over-sets, able-set}
+use Rattle.chance.proofs.OverSets.{first, over-sets, able-set}
 use Rattle.chance.proofs.Masks.{even-first, odd-first, even-half, odd-half, has-first, half-has, none-has}
 
 sum-halves : (n : ℕ) (f : ℕ → ℕ) → sumBelow (2 * n) f ≡ sumBelow n (λ z. f (2 * z)) + sumBelow n (λ z. f (2 * z + 1))

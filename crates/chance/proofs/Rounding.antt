@@ -13,7 +13,7 @@ use Rattle.scale.specs.Fractions.{Fraction, whole, _≤ᶠ_, _=ᶠ_, _+ᶠ_, _-
 use Rattle.scale.specs.Arithmetic.{Arithmetic, Rounded, chance}
 use Rattle.chance.specs.Bounds.{productDown, productUp}
 use Rattle.chance.proofs.Risks.{Risk, unit, ratings-of, AbleRisks}
-use Rattle.chance.proofs.Sums.{first, units, halved}
+use Rattle.chance.proofs.OverSets.{first, units, halved}
 use Rattle.chance.proofs.Halves.{down-halved, up-halved}
 use Rattle.chance.proofs.Ratios.{Under, Over, under-trans, over-trans, times-under, over-times, add-under, over-add, less-under, less-whole}
 use Rattle.chance.proofs.Masks.{able-first, able-half}

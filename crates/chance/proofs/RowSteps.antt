@@ -11,7 +11,7 @@ use lib.Seq.{take-all}
 use Rattle.std.specs.shelf.Lists.{folded}
 use Rattle.std.proofs.shelf.Lists.{take-more}
 use Rattle.std.proofs.shelf.Sums.{folded-push}
-use Rattle.std.proofs.shelf.Tests.{cond-true, cond-false, ne-eqb}
+use Rattle.std.proofs.shelf.Tests.{cond-false, ne-eqb}
 use Rattle.network.specs.declared.rating.Rating.{Rating}
 use Rattle.scale.specs.Arithmetic.{Arithmetic}
 use Rattle.chance.specs.Bounds.{united, prefixes, larger, largest, productDown, productUp, addedUp, rowSum, pairSum, difference, low, high}
@@ -70,18 +70,19 @@ module _ {Num : Type 0} (s : Arithmetic Num) where
         ∙ sym (cond-false _ _ _ (ne-eqb (suc (length rows)) 0 (λ e. omega arith)))
 
     -- a loop over the rows
-    pub rows-more : (rows : List ℕ) (j : ℕ) {sum p r : Num} → j < length rows → r ≡ s .sumDown sum p → sum ≡ rowSum s ratings (take j rows) → p ≡ productDown s ratings (getD rows j 0)
+    pub rows-more : (rows : List ℕ) (j : ℕ) {sum r : Num} → j < length rows → r ≡ s .sumDown sum (productDown s ratings (getD rows j 0)) → sum ≡ rowSum s ratings (take j rows)
         → r ≡ rowSum s ratings (take (j + 1) rows)
-    rows-more rows j h e f g = e ∙ ap₂ (s .sumDown) f g ∙ sym (rw (take-more rows j 0 h) (rows-push (take j rows) (getD rows j 0)))
+    rows-more rows j h e f = e ∙ ap (λ n. s .sumDown n (productDown s ratings (getD rows j 0))) f ∙ sym (rw (take-more rows j 0 h) (rows-push (take j rows) (getD rows j 0)))
 
     pub pairs-more : (rows : List ℕ) (j : ℕ) {sum r : Num} → j < length rows → r ≡ addedUp s ratings sum (map (λ d. bitOr d (getD rows j 0)) (take j rows)) → sum ≡ pairSum s ratings (take j rows)
         → r ≡ pairSum s ratings (take (j + 1) rows)
     pairs-more rows j h e f =
         e ∙ ap (λ n. addedUp s ratings n (map (λ d. bitOr d (getD rows j 0)) (take j rows))) f ∙ sym (rw (take-more rows j 0 h) (pairs-push (take j rows) (getD rows j 0)))
 
-    pub high-more : (rows : List ℕ) (j : ℕ) {sum p r : Num} → j < length rows → r ≡ s .sumUp sum p → sum ≡ addedUp s ratings (s .zero) (take j rows) → p ≡ productUp s ratings (getD rows j 0)
+    pub high-more : (rows : List ℕ) (j : ℕ) {sum r : Num} → j < length rows → r ≡ s .sumUp sum (productUp s ratings (getD rows j 0)) → sum ≡ addedUp s ratings (s .zero) (take j rows)
         → r ≡ addedUp s ratings (s .zero) (take (j + 1) rows)
-    high-more rows j h e f g = e ∙ ap₂ (s .sumUp) f g ∙ sym (rw (take-more rows j 0 h) (added-push (s .zero) (take j rows) (getD rows j 0)))
+    high-more rows j h e f =
+        e ∙ ap (λ n. s .sumUp n (productUp s ratings (getD rows j 0))) f ∙ sym (rw (take-more rows j 0 h) (added-push (s .zero) (take j rows) (getD rows j 0)))
 
     pub low-more : (rows : List ℕ) (j : ℕ) {best d p q r : Num} → j < length rows → r ≡ cond (eqb j 0) d (larger s best d) → d ≡ s .lessDown p q
         → best ≡ low s ratings (take j rows) → p ≡ rowSum s ratings (take (j + 1) rows) → q ≡ pairSum s ratings (take (j + 1) rows)
@@ -93,10 +94,10 @@ module _ {Num : Type 0} (s : Arithmetic Num) where
         ∙ sym (rw (take-more rows j 0 h) (low-push (take j rows) (getD rows j 0) ∙ rw l))
 
     -- a loop over the rows before one: the pairs
-    pub pair-more : (f : ℕ → ℕ) (rows : List ℕ) (i : ℕ) (start : Num) {sum p r : Num} → i < length rows → r ≡ s .sumUp sum p → sum ≡ addedUp s ratings start (map f (take i rows)) → p ≡ productUp s ratings (f (getD rows i 0))
-        → r ≡ addedUp s ratings start (map f (take (i + 1) rows))
-    pair-more f rows i start h e a b =
-        e ∙ ap₂ (s .sumUp) a b
+    pub pair-more : (f : ℕ → ℕ) (rows : List ℕ) (i : ℕ) (start : Num) {sum r : Num} → i < length rows → r ≡ s .sumUp sum (productUp s ratings (f (getD rows i 0)))
+        → sum ≡ addedUp s ratings start (map f (take i rows)) → r ≡ addedUp s ratings start (map f (take (i + 1) rows))
+    pair-more f rows i start h e a =
+        e ∙ ap (λ n. s .sumUp n (productUp s ratings (f (getD rows i 0)))) a
         ∙ sym (rw (take-more rows i 0 h, map-append f (take i rows) (getD rows i 0 ∷ [])) (added-push start (map f (take i rows)) (f (getD rows i 0))))
 
     pub rows-none : s .zero ≡ rowSum s ratings []
@@ -115,10 +116,6 @@ module _ {Num : Type 0} (s : Arithmetic Num) where
     pub all-rows : {A : Type 0} (f : List ℕ → A) (rows : List ℕ) (j : ℕ) {x : A} → length rows ≤ j → x ≡ f (take j rows) → x ≡ f rows
     all-rows f rows j h e = e ∙ ap f (take-all _ _ h)
 
-    pub high-finished : (finished : Bool) (rows : List ℕ) {n : Num} → finished ≡ true → n ≡ addedUp s ratings (s .zero) rows → n ≡ high s ratings finished rows
+    pub high-is : (finished : Bool) (rows : List ℕ) {sum n : Num} → n ≡ cond finished sum (s .one) → sum ≡ addedUp s ratings (s .zero) rows → n ≡ high s ratings finished rows
     unfolding high
-    high-finished finished rows t e = e ∙ sym (cond-true _ _ _ t)
-
-    pub high-before : (finished : Bool) (rows : List ℕ) {n : Num} → finished ≡ false → n ≡ s .one → n ≡ high s ratings finished rows
-    unfolding high
-    high-before finished rows f e = e ∙ sym (cond-false _ _ _ f)
+    high-is finished rows e f = e ∙ ap (λ n. cond finished n (s .one)) f

@@ -11,7 +11,7 @@ use native.Mathlib.Omega.{arith}
 use Rattle.std.specs.shelf.Lists.{All}
 use Rattle.std.proofs.shelf.Elements.{all-weaker, all-push, all-append, all-map}
 use Rattle.chance.proofs.Risks.{Risk, AbleRisks}
-use Rattle.chance.proofs.Sums.{over-sets, units, weight, exact}
+use Rattle.chance.proofs.OverSets.{over-sets, units, weight, exact}
 use Rattle.chance.specs.Bounds.{united}
 use Rattle.chance.specs.CutOff.{Within}
 use Rattle.chance.proofs.Masks.{able-or}

@@ -10,7 +10,7 @@ use native.Mathlib.Omega.{arith}
 use Rattle.network.specs.declared.rating.Rating.{Rating}
 use Rattle.chance.specs.CutOff.{Within}
 use Rattle.chance.proofs.Risks.{Risk, unit, AbleRisks}
-use Rattle.chance.proofs.Sums.{first, over-sets, units, weight}
+use Rattle.chance.proofs.OverSets.{first, over-sets, units, weight}
 use Rattle.chance.proofs.Masks.{T-true, even-first, odd-first, even-half, odd-half, able-first, able-half, able-even, able-odd, or-half, has-first, half-has, within-half, first-has, none-has, has-half, first-or}
 
 cond-le : (a : Bool) (x y : ℕ) → (T a → x ≤ y) → cond a x 0 ≤ cond a y 0

@@ -7,8 +7,9 @@ ghost use lib.Bits.{bitOr};
 ghost use lib.ListN.{length, getD, take};
 ghost use Rattle.chance.specs.Bounds.{larger, addedUp, low as lowOf, high as highOf};
 ghost use Rattle.chance.specs.Bracket.{Brackets, Narrowing};
-use crate::products::product_down;
-use crate::products::product_up;
+use crate::sums::add_down;
+use crate::sums::add_pair;
+use crate::sums::add_up;
 use network::traits::RatedNetwork;
 use scale::Scale;
 
@@ -25,7 +26,7 @@ fn add_pairs<S: Scale, N: RatedNetwork>(network: &N, rows: &[u64], j: usize, sum
 {
     let mut all = sum;
     for i in 0..j {
-        all = S::sum_up(all, product_up::<S, N>(network, rows[i] | rows[j]));
+        all = add_pair::<S, N>(network, rows[i], rows[j], all);
     }
     all
 }
@@ -43,6 +44,16 @@ fn better<S: Scale>(first: bool, best: S::Num, next: S::Num) -> S::Num
     next
 }
 
+// The sum of all rows once the search is finished, and 1 before.
+fn high_bound<S: Scale>(finished: bool, sum: S::Num) -> S::Num
+    ensures { λ r. ⌜ r ≡ cond finished sum (S·Scale .arithmetic .one) ⌝ }
+{
+    if finished {
+        return sum;
+    }
+    S::one()
+}
+
 // The bounds of the rows, in listing order; the high bound is 1 until the search is finished.
 pub fn bounds_of<S: Scale, N: RatedNetwork>(
     network: &N,
@@ -56,17 +67,17 @@ pub fn bounds_of<S: Scale, N: RatedNetwork>(
     let mut s1 = S::zero();
     let mut s2 = S::zero();
     let mut low = S::zero();
-    let mut high = S::zero();
+    let mut sum = S::zero();
     for (j, row) in rows.iter().enumerate() {
-        s1 = S::sum_down(s1, product_down::<S, N>(network, *row));
+        s1 = add_down::<S, N>(network, *row, s1);
         s2 = add_pairs::<S, N>(network, rows, j, s2);
         low = better::<S>(j == 0, low, S::less_down(s1, s2));
-        high = S::sum_up(high, product_up::<S, N>(network, *row));
+        sum = add_up::<S, N>(network, *row, sum);
     }
-    if !finished {
-        high = S::one();
+    Bounds {
+        low,
+        high: high_bound::<S>(finished, sum),
     }
-    Bounds { low, high }
 }
 
 // More rows only narrow the bounds, in every scale with numbers of type T.

@@ -40,8 +40,8 @@ pub(crate) fn product_up<S: Scale, N: RatedNetwork>(network: &N, set: u64) -> S:
     ensures { λ r. ⌜ r ≡ productUp (S·Scale .arithmetic) (N·RatedNetwork .rated (now (network .entry)) .ratings) set ⌝ }
 {
     let mut product = S::one();
-    for k in 0..WIDTH {
-        if let Some(rating) = rating_in(network, set, k) {
+    for branch in 0..WIDTH {
+        if let Some(rating) = rating_in(network, set, branch) {
             product = S::times_up(product, rating);
         }
     }

@@ -11,4 +11,4 @@ loop-i-holds g c = added-none (g .S·Scale .arithmetic) (g .N·RatedNetwork .rat
 pub loop-i-again : need.loop-i-again
 loop-i-again g c =
     pair-more (g .S·Scale .arithmetic) (g .N·RatedNetwork .rated (c .args .network .now) .ratings) (λ row. bitOr row (getD (c .args .rows .now) (c .args .j) 0))
-    (c .args .rows .now) (c .loop-i .i) (c .args .sum) (omega arith) (c .sum-up-all .ensures) (c .loop-i .inv) (c .product-up .ensures)
+    (c .args .rows .now) (c .loop-i .i) (c .args .sum) (omega arith) (c .add-pair-all .ensures) (c .loop-i .inv)

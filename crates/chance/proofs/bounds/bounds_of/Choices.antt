@@ -7,4 +7,4 @@ abbrev pub Inv-loop-j : given.InvT-loop-j
 Inv-loop-j g l =
     let s = g .S·Scale .arithmetic in
     let ratings = g .N·RatedNetwork .rated (l .network) .ratings in
-    (l .s1 ≡ rowSum s ratings (take (l .j) (l .rows))) × (l .s2 ≡ pairSum s ratings (take (l .j) (l .rows))) × (l .low ≡ low s ratings (take (l .j) (l .rows))) × (l .high ≡ addedUp s ratings (s .zero) (take (l .j) (l .rows)))
+    (l .s1 ≡ rowSum s ratings (take (l .j) (l .rows))) × (l .s2 ≡ pairSum s ratings (take (l .j) (l .rows))) × (l .low ≡ low s ratings (take (l .j) (l .rows))) × (l .sum ≡ addedUp s ratings (s .zero) (take (l .j) (l .rows)))

@@ -1,11 +1,12 @@
-use mathlib.Core.Path.{_∙_}
 use native.Mathlib.Omega.{arith}
+use borrow.Author.Needs.{needs}
 use Rattle.chance.proofs.Chosen.{down-none, down-some, down-kept, down-all}
 use Rattle.chance.proofs.products.product_down.Needs as need
 use Rattle.chance.proofs.products.product_down.Needs.{in-Some, in-rest}
 
 pub loop-k-holds : need.loop-k-holds
-loop-k-holds g c = c .one-product .ensures ∙ down-none (g .S·Scale .arithmetic) (g .N·RatedNetwork .rated (c .args .network .now) .ratings) (c .args .set)
+loop-k-holds g c =
+    let start = down-none (g .S·Scale .arithmetic) (g .N·RatedNetwork .rated (c .args .network .now) .ratings) (c .args .set) in search needs
 
 pub loop-k-again : need.loop-k-again
 loop-k-again g c =
