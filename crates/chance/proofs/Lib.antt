@@ -13,3 +13,4 @@ pub mod Plain
 pub mod Numbers
 pub mod Narrow
 pub mod Enclosed
+pub mod LargestOf

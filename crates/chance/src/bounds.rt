@@ -6,6 +6,7 @@ ghost use Prim.Native.Nat.{_<_};
 ghost use lib.Bits.{bitOr};
 ghost use lib.ListN.{length, getD, take};
 ghost use Rattle.chance.specs.Bounds.{larger, addedUp, low as lowOf, high as highOf};
+ghost use Rattle.chance.specs.Largest.{FirstLargest};
 ghost use Rattle.chance.specs.Bracket.{Brackets, Narrowing};
 use crate::sums::add_down;
 use crate::sums::add_pair;
@@ -62,6 +63,7 @@ pub fn bounds_of<S: Scale, N: RatedNetwork>(
 ) -> Bounds<S::Num>
     ensures low { λ r. ⌜ r .low ≡ lowOf (S·Scale .arithmetic) (N·RatedNetwork .rated (now (network .entry)) .ratings) (now (rows .entry)) ⌝ }
     ensures high { λ r. ⌜ r .high ≡ highOf (S·Scale .arithmetic) (N·RatedNetwork .rated (now (network .entry)) .ratings) finished (now (rows .entry)) ⌝ }
+    ensures first { λ r. ⌜ FirstLargest (S·Scale .arithmetic) (N·RatedNetwork .rated (now (network .entry)) .ratings) (now (rows .entry)) (r .low) ⌝ }
     ensures bracket { λ r. ⌜ Brackets (S·Scale .arithmetic) (N·RatedNetwork .rated (now (network .entry))) (now (rows .entry)) finished (r .low) (r .high) ⌝ }
 {
     let mut s1 = S::zero();

@@ -4,6 +4,7 @@ use lib.Dec.{eqb}
 use borrow.Author.Needs.{needs}
 use Rattle.chance.specs.Bounds.{larger, low, high, addedUp}
 use Rattle.chance.proofs.Enclosed.{brackets}
+use Rattle.chance.proofs.LargestOf.{first-largest}
 use Rattle.chance.proofs.RowSteps.{added-none, rows-none, pairs-none, low-none, rows-more, pairs-more, low-more, high-more, all-rows, high-is}
 use Rattle.chance.proofs.bounds.bounds_of.Needs as need
 
@@ -46,5 +47,6 @@ returns g c =
     record {
       low = is-low;
       high = is-high;
+      first = first-largest s (g .S·Scale·met .rounded) ratings rows _ is-low;
       bracket = brackets s (g .S·Scale·met .rounded) (g .N·RatedNetwork .rated (c .args .network .now)) (g .N·RatedNetwork .legal (c .args .network .now)) rows finished _ _ is-low is-high;
     }
