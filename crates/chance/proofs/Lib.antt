@@ -1,0 +1,16 @@
+pub mod Chosen
+pub mod RowSteps
+pub mod Risks
+pub mod OverSets
+pub mod Halves
+pub mod Ratios
+pub mod Masks
+pub mod Weights
+pub mod Counting
+pub mod Totals
+pub mod Rounding
+pub mod Plain
+pub mod Numbers
+pub mod Narrow
+pub mod Enclosed
+pub mod LargestOf

@@ -1,0 +1,4 @@
+pub mod Bounds
+pub mod CutOff
+pub mod Bracket
+pub mod Largest
