@@ -93,7 +93,12 @@ fn tell<N: RatedNetwork>(rt: &LibcRuntime, network: &N) -> Result<(), AnyError> 
     Ok(())
 }
 
-fn tell_pile<P: RatedNetwork + Drop, Q: RatedNetwork + Drop>(rt: &LibcRuntime, first: P, second: Q, [node, out, sure]: [u32; 3]) -> Result<(), AnyError> {
+fn tell_pile<P: RatedNetwork + Drop, Q: RatedNetwork + Drop>(
+    rt: &LibcRuntime,
+    first: P,
+    second: Q,
+    [node, out, sure]: [u32; 3],
+) -> Result<(), AnyError> {
     let pile = Sure::over(Out::over(Joint::at(first, second, node), out), sure);
     tell(rt, &pile)
 }
@@ -110,7 +115,12 @@ fn numbers(line: &str) -> Result<[u32; 7], AnyError> {
     Ok(all)
 }
 
-fn tell_ring<Q: RatedNetwork + Drop>(rt: &LibcRuntime, [nodes, mantissa, exponent]: [u32; 3], second: Q, at: [u32; 3]) -> Result<(), AnyError> {
+fn tell_ring<Q: RatedNetwork + Drop>(
+    rt: &LibcRuntime,
+    [nodes, mantissa, exponent]: [u32; 3],
+    second: Q,
+    at: [u32; 3],
+) -> Result<(), AnyError> {
     match Ring::new(nodes, mantissa, exponent) {
         Ok(ring) => tell_pile(rt, ring, second, at),
         Err(fault) => tell_refusal(rt, "RING", fault),
@@ -118,7 +128,12 @@ fn tell_ring<Q: RatedNetwork + Drop>(rt: &LibcRuntime, [nodes, mantissa, exponen
 }
 
 // The two lists joined; then a ring of the first list's numbers joined to the second list.
-fn tell_piles(rt: &LibcRuntime, [n, b, m, c, node, out, sure]: [u32; 7], first: &[TableRow], second: &[TableRow]) -> Result<(), AnyError> {
+fn tell_piles(
+    rt: &LibcRuntime,
+    [n, b, m, c, node, out, sure]: [u32; 7],
+    first: &[TableRow],
+    second: &[TableRow],
+) -> Result<(), AnyError> {
     tell_list(rt, n, first)?;
     tell_list(rt, m, second)?;
     tell_pile(rt, listed(n, first), listed(m, second), [node, out, sure])?;
@@ -131,7 +146,12 @@ fn tell_case(rt: &LibcRuntime, line: &str) -> Result<(), AnyError> {
     let [n, b, m, c, _, _, _] = case;
     let first = rows(n, 1000, 9);
     let second = rows(m, 2000, 18);
-    tell_piles(rt, case, &first[0..(b as usize).min(PLACES)], &second[0..(c as usize).min(PLACES)])
+    tell_piles(
+        rt,
+        case,
+        &first[0..(b as usize).min(PLACES)],
+        &second[0..(c as usize).min(PLACES)],
+    )
 }
 
 fn main(rt: LibcRuntime) -> Result<(), AnyError> {

@@ -11,7 +11,7 @@ use Rattle.refusals.specs.declared.layer.Refusal.{Refusal}
 use Rattle.refusals.specs.declared.network_fault.NetworkFault.{NetworkFault}
 use Rattle.refusals.specs.declared.network_fault.NetworkFault.the-variants.{NodeCount, BranchCount, BadEnd, BadRating}
 use Rattle.refusals.specs.declared.study_fault.StudyFault.{StudyFault}
-use Rattle.refusals.specs.declared.study_fault.StudyFault.the-variants.{Network, Head, Door, DoorIsHead, Unjoined, Inseparable, NoAim, Budget, NoRow}
+use Rattle.refusals.specs.declared.study_fault.StudyFault.the-variants.{Network, Head, Door, DoorIsHead, Unjoined, Inseparable, NoAim, Budget, NoRow, Buffer}
 use Rattle.refusals.specs.declared.deck_fault.DeckFault.{DeckFault}
 use Rattle.refusals.specs.declared.deck_fault.DeckFault.the-variants.{Study, Table, Bytes, Word, Turn, Numbers, Mark}
 use Rattle.refusals.specs.declared.deck_fault.DeckRefusal.{DeckRefusal}
@@ -38,6 +38,7 @@ studyRefusal Inseparable = ownRefusal 9
 studyRefusal NoAim = ownRefusal 10
 studyRefusal Budget = ownRefusal 11
 studyRefusal NoRow = ownRefusal 12
+studyRefusal Buffer = ownRefusal 13
 
 -- a deck's faults: layer D; a fault from below keeps what it says
 abbrev pub deckRefusal : DeckFault → Refusal

@@ -26,6 +26,8 @@ pub enum StudyFault {
     Budget,
     // there is no such row
     NoRow,
+    // the buffer has fewer than 320 bytes
+    Buffer,
 }
 
 pub impl From<NetworkFault> for StudyFault as StudyFromNetwork {
@@ -50,6 +52,7 @@ impl StudyFault {
             StudyFault::NoAim => study_refusal(10),
             StudyFault::Budget => study_refusal(11),
             StudyFault::NoRow => study_refusal(12),
+            StudyFault::Buffer => study_refusal(13),
         }
     }
 }

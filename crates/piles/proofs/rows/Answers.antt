@@ -8,6 +8,8 @@ use Rattle.piles.proofs.rows.Needs as need
 
 pub loop-place-again : need.loop-place-again
 loop-place-again c =
-    let before = c .loop-place .inv in
-    (simp length-set (before .0), before .1,
-     filled-more (λ k. rowOf (c .max-round .result) k (c .args .mantissa) (c .args .exponent)) (c .loop-place .table) (c .loop-place .place) (c .row .result) (omega arith) (c .row .ensures) (before .2))
+    let before = c .loop-place .inv in (
+      simp length-set (before .0),
+      before .1,
+      filled-more (λ k. rowOf (c .max-round .result) k (c .args .mantissa) (c .args .exponent)) (c .loop-place .table) (c .loop-place .place) (c .row .result) (omega arith) (c .row .ensures) (before .2),
+    )
