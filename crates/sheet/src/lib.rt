@@ -1,3 +1,4 @@
 // What the programs print, as text whose bytes the contracts give.
+pub mod cut_text;
 pub mod description;
 pub mod network_text;
