@@ -115,7 +115,8 @@ toDeck (Err f) = Err (Study f)
 abbrev pub planAsked : ℕ → ℕ → Answer StudyFault
 planAsked n h = andThen (toStudy (nodesAsked n)) (headAsked n h)
 
--- at most 64 branches, then both ends nodes, then a legal rating; a mark on a branch that is there; nothing of a door
+-- NODES: refusals 1 and 5. BRANCH: 2 for the 65th, then 3 for its ends, then 4 for its rating. FAILED and WORKING: 19 where
+-- the branch is not there. Of a door nothing is asked.
 abbrev pub entryAsked : List Entry → Entry → Answer DeckFault
 entryAsked es (nodesAre n h) = toDeck (planAsked n h)
 entryAsked es (branchIs b) = toDeck (toStudy (andThen (countAsked (length (branchesIn es) + 1)) (rowAsked (nodesIn es) (length (branchesIn es)) b)))
@@ -126,17 +127,18 @@ abbrev pub entered : Entry → Answer DeckFault → Result Entry DeckFault
 entered e (Ok u) = Ok e
 entered e (Err f) = Err f
 
--- are the numbers there, and is the entry that they make taken?
+-- are the numbers there, and does the entry that they make pass its questions?
 abbrev pub counted : List Entry → (List ℕ → Entry) → Option (List ℕ) → Result Entry DeckFault
 counted es make None = Err Numbers
 counted es make (Some ns) = entered (make ns) (entryAsked es (make ns))
 
--- a card after the entries es: is its word one of the five, is it in turn, and so on
+-- a card after the entries es: refusal 16 where its word is none of the five, then 17 out of turn, then 18 for its numbers
 abbrev pub cardAfter : List Entry → Reading → Result Entry DeckFault
 cardAfter es unknown = Err Word
 cardAfter es (card k ns) = cond (follows (lastTurn es) (turnOf k)) (counted es (entryOf k) ns) (Err Turn)
 
--- Card by card, the first refusal decides, and its line is that card's; a deck ends after a door.
+-- Card by card, the first refusal decides, and its line is that card's. A deck that ends before a door is refused, 17, at the
+-- line after its last.
 
 abbrev pub refused : DeckFault → ℕ → DeckRefusal
 refused f line = record { fault = f; line = line }
@@ -151,7 +153,7 @@ readCards es (c ∷ cs) = elim (cardAfter es c) [ Ok e ↦ readCards (e ∷ es) 
 abbrev pub endsLine : List ℕ → Bool
 endsLine bs = eqb (getD bs (length bs - 1) 0) 10
 
--- has the table 64 places, and has the deck at most 65,536 bytes, the last of them byte 10?
+-- refusal 14 where the table has fewer than 64 places; 15 over 65,536 bytes, or where the last of them is not byte 10
 abbrev pub bytesAsked : ℕ → List ℕ → Answer DeckFault
 bytesAsked places bs = andThen (asked (leb 64 places) Table) (asked (leb (length bs) 65536 && endsLine bs) Bytes)
 
@@ -159,7 +161,7 @@ abbrev pub readIf : Answer DeckFault → List Reading → Result (List Entry) De
 readIf (Ok u) cs = readCards [] cs
 readIf (Err f) cs = Err (refused f 0)
 
--- the entries of a deck, for a table of so many places
+-- the entries of a deck, for a table of so many places: beyond those two questions its cards alone decide
 abbrev pub readBytes : ℕ → List ℕ → Result (List Entry) DeckRefusal
 readBytes places bs = readIf (bytesAsked places bs) (cards bs)
 
