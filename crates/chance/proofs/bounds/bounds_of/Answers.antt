@@ -28,11 +28,12 @@ loop-j-again g c =
     let before = c .loop-j .inv in
     let first = rows-more s ratings rows j h (c .add-down-s1 .ensures) (before .0) in
     let pairs = pairs-more s ratings rows j h (c .add-pairs-s2 .ensures) (before .1) in
+    let less : c .less-down .result ≡ s .lessDown (c .add-down-s1 .result) (c .add-pairs-s2 .result) = search needs in
     let step : c .better-low .result ≡ cond (eqb j 0) (c .less-down .result) (larger s (c .loop-j .low) (c .less-down .result)) = search needs in (
       first,
       pairs,
-      low-more s ratings rows j h step (c .less-down .ensures) (before .2) first pairs,
-      high-more s ratings rows j h (c .add-up-sum .ensures) (before .3),
+      low-more s ratings rows j h step less (before .2) first pairs,
+      high-more s ratings rows j {sum = c .loop-j .sum} h (c .add-up-sum .ensures) (before .3),
     )
 
 pub returns : need.returns

@@ -1,4 +1,5 @@
 use mathlib.Core.Path.{_≡_, refl, ap, _∙_}
+use native.Mathlib.Omega.{arith}
 use Rattle.scale.specs.NineFigures.{nine, fit, floor, ceiling, nineFigures}
 use Rattle.scale.specs.declared.nine_figures.Decimal.{Decimal}
 use Rattle.scale.proofs.BillionthLaws.{same-units}
@@ -17,9 +18,9 @@ returns c = record {
   fine-down = same-decimal _ _ refl refl;
   fine-up = same-decimal _ _ refl refl;
   less = same-decimal _ _ refl refl;
-  found-down = c .times-down .ensures ∙ same-units _ _ refl;
-  found-up = c .times-up .ensures ∙ same-units _ _ refl;
-  found-fine-down = c .times-down-2 .ensures ∙ same-decimal _ _ refl refl;
+  found-down = c .times-down .ensures ∙ same-units _ _ (omega arith);
+  found-up = c .times-up .ensures ∙ same-units _ _ (omega arith);
+  found-fine-down = c .times-down-2 .ensures ∙ same-decimal _ _ (omega arith) (omega arith);
   found-fine-up = c .times-up-2 .ensures ∙ same-decimal _ _ refl refl;
   found-less = less-from-one (c .one .result) (c .less-down .result) (c .one .ensures) (c .less-down .ensures);
 }
