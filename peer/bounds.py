@@ -7,7 +7,7 @@ any scale of `scales` or `fast_scales`.
 
 from __future__ import annotations
 
-from collections.abc import Callable
+from collections.abc import Callable, Sequence
 from typing import Any
 
 from scales import Rating
@@ -25,12 +25,12 @@ class Products(dict):
     """
 
     def __init__(
-        self, one: Any, fold: Callable[[Any, list[Rating]], Any], ratings: list[Rating]
+        self, one: Any, fold: Callable[[Any, Sequence[Rating]], Any], ratings: Sequence[Rating]
     ) -> None:
         super().__init__({0: one})
         self.fold = fold
         self.ratings = ratings
-        self.pieces: dict[int, list[Rating]] = {}
+        self.pieces: dict[int, Sequence[Rating]] = {}
 
     def __missing__(self, branches: int) -> Any:
         first = (branches.bit_length() - 1) // STRIDE * STRIDE
@@ -39,14 +39,14 @@ class Products(dict):
         self[branches] = number
         return number
 
-    def _ratings_of(self, piece: int) -> list[Rating]:
+    def _ratings_of(self, piece: int) -> Sequence[Rating]:
         """The ratings of some branches in their order."""
         if piece not in self.pieces:
             self.pieces[piece] = [r for k, r in enumerate(self.ratings) if piece >> k & 1]
         return self.pieces[piece]
 
 
-def bounds(scale: Any, ratings: list[Rating], sets: list[int], finished: bool) -> tuple[Any, Any]:
+def bounds(scale: Any, ratings: Sequence[Rating], sets: Sequence[int], finished: bool) -> tuple[Any, Any]:
     """The low and the high bound of branch sets in the order of their list."""
     low = low_bound(scale, ratings, sets)
     # Sets still to come may add anything, so before the end 1 is all there is.
@@ -54,7 +54,7 @@ def bounds(scale: Any, ratings: list[Rating], sets: list[int], finished: bool) -
     return low, high
 
 
-def low_bound(scale: Any, ratings: list[Rating], sets: list[int]) -> Any:
+def low_bound(scale: Any, ratings: Sequence[Rating], sets: Sequence[int]) -> Any:
     """The best of what is left over after each set; 0 if there is no set.
 
     Singles may only be told too small and overlaps only too large.  The
@@ -73,7 +73,7 @@ def low_bound(scale: Any, ratings: list[Rating], sets: list[int]) -> Any:
     return best
 
 
-def high_bound(scale: Any, ratings: list[Rating], sets: list[int]) -> Any:
+def high_bound(scale: Any, ratings: Sequence[Rating], sets: Sequence[int]) -> Any:
     """All sets together, each told too large rather than too small."""
     product = Products(scale.one, scale.fold_up, scale.prepared(ratings))
     total = scale.zero

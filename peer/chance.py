@@ -1,7 +1,8 @@
-"""The exact chance that a door is cut off, by adding up every case.
+"""The exact chance that a node is cut off, by adding up every case.
 
 Each set of branches able to fail is one case: its members have failed and the
-others have not.  A case counts if it leaves no walk from the head to the door.
+others have not.  A case counts for a node if it leaves no walk from the head to
+that node.
 """
 
 from __future__ import annotations
@@ -19,18 +20,23 @@ def able(deck: Deck) -> list[Branch]:
 
 
 def cut_off_chance(deck: Deck, door: int) -> Fraction:
-    """The chance that head and door are parted; failures are independent."""
+    """The chance that head and door are parted; branches fail independently."""
+    return cut_off_chances(deck)[door]
+
+
+def cut_off_chances(deck: Deck) -> list[Fraction]:
+    """The chance for each node that it is parted from the head."""
     unsure = able(deck)
     if len(unsure) > MOST_ABLE:
         raise ValueError("too many branches to go through all cases")
-    weights = _weights(unsure)
-    count = sum(
-        weight for case, weight in enumerate(weights) if _parted(deck, unsure, case, door)
-    )
+    counts = [0] * deck.nodes
+    for case, weight in enumerate(_weights(unsure)):
+        for node in _parted(deck, unsure, case):
+            counts[node] += weight
     whole = 1
     for branch in unsure:
         whole *= 10**branch.e
-    return Fraction(count, whole)
+    return [Fraction(count, whole) for count in counts]
 
 
 def _weights(unsure: list[Branch]) -> list[int]:
@@ -45,8 +51,8 @@ def _weights(unsure: list[Branch]) -> list[int]:
     return found
 
 
-def _parted(deck: Deck, unsure: list[Branch], case: int, door: int) -> bool:
-    """Whether no walk is left when the branches of this case have failed."""
+def _parted(deck: Deck, unsure: list[Branch], case: int) -> set[int]:
+    """The nodes without a walk from the head when this case's branches are out."""
     there = [branch.ends for branch in deck.branches if branch.condition is Condition.WORKING]
     there += [branch.ends for k, branch in enumerate(unsure) if not case >> k & 1]
     found = {deck.head}
@@ -58,4 +64,4 @@ def _parted(deck: Deck, unsure: list[Branch], case: int, door: int) -> bool:
                 found.add(one)
                 found.add(other)
         grew = len(found) > before
-    return door not in found
+    return set(range(deck.nodes)) - found

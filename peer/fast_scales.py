@@ -9,6 +9,7 @@ same number as rounding at once.
 from __future__ import annotations
 
 from abc import ABC, abstractmethod
+from collections.abc import Sequence
 
 from scales import Rating
 
@@ -39,18 +40,18 @@ class FastScale(ABC):
         m, e = rating
         return self.up(-(-number * m // POWERS[e]))
 
-    def prepared(self, ratings: list[Rating]) -> list[Rating]:
+    def prepared(self, ratings: Sequence[Rating]) -> Sequence[Rating]:
         """The same chances, written in the way that folding needs them."""
         return ratings
 
-    def fold_down(self, number: int, ratings: list[Rating]) -> int:
+    def fold_down(self, number: int, ratings: Sequence[Rating]) -> int:
         """The number times one rating after the other, each time rounded down."""
         for rating in ratings:
             number = self.times_down(number, rating)
         return number
 
     @abstractmethod
-    def fold_up(self, number: int, ratings: list[Rating]) -> int:
+    def fold_up(self, number: int, ratings: Sequence[Rating]) -> int:
         """The number times one rating after the other, each time rounded up."""
 
     def sum_down(self, one: int, other: int) -> int:
@@ -79,7 +80,7 @@ class FastBillionths(FastScale):
 
     up = down
 
-    def fold_up(self, number: int, ratings: list[Rating]) -> int:
+    def fold_up(self, number: int, ratings: Sequence[Rating]) -> int:
         for m, e in ratings:
             number = -(-number * m // POWERS[e])
         return number
@@ -107,11 +108,11 @@ class FastNineFigures(FastScale):
             return SMALLEST if steps else 0
         return steps + -steps % _grain(steps)
 
-    def prepared(self, ratings: list[Rating]) -> list[Rating]:
+    def prepared(self, ratings: Sequence[Rating]) -> Sequence[Rating]:
         """Ratings with nine figures in m, but for 0."""
         return [self._figures(POWERS[60 - e] * m) for m, e in ratings]
 
-    def fold_up(self, number: int, ratings: list[Rating]) -> int:
+    def fold_up(self, number: int, ratings: Sequence[Rating]) -> int:
         """Most of the time goes here, so this works on figures and exponent.
 
         Nine figures times nine figures are seventeen or eighteen.

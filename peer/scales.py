@@ -9,6 +9,7 @@ Nothing here is quick; `fast_scales` does the same with whole numbers.
 from __future__ import annotations
 
 from abc import ABC, abstractmethod
+from collections.abc import Sequence
 from fractions import Fraction
 from typing import Generic, TypeVar
 
@@ -50,17 +51,17 @@ class Scale(ABC, Generic[Number]):
     def times_up(self, number: Number, rating: Rating) -> Number:
         return self.up(self.value(number) * chance(rating))
 
-    def prepared(self, ratings: list[Rating]) -> list[Rating]:
+    def prepared(self, ratings: Sequence[Rating]) -> Sequence[Rating]:
         """Ratings in the form that folding takes, which is the usual one."""
         return ratings
 
-    def fold_down(self, number: Number, ratings: list[Rating]) -> Number:
+    def fold_down(self, number: Number, ratings: Sequence[Rating]) -> Number:
         """The number times one rating after the other, each time rounded down."""
         for rating in ratings:
             number = self.times_down(number, rating)
         return number
 
-    def fold_up(self, number: Number, ratings: list[Rating]) -> Number:
+    def fold_up(self, number: Number, ratings: Sequence[Rating]) -> Number:
         """The number times one rating after the other, each time rounded up."""
         for rating in ratings:
             number = self.times_up(number, rating)

@@ -2,10 +2,13 @@
 
 from __future__ import annotations
 
-from cuts import MOST_BUDGET, Network, Refused, Search, aim, members, network_of
-from deck import Deck, Refusal, description, read_deck
+from functools import lru_cache
+
 from bounds import bounds
+from cuts import MOST_BUDGET, Network, Refused, Search, Status, aim, members, network_of
+from deck import Deck, Refusal, description, read_deck
 from fast_scales import FastBillionths, FastNineFigures
+from scales import Rating
 
 BILLIONTHS = FastBillionths()
 NINE_FIGURES = FastNineFigures()
@@ -34,9 +37,12 @@ def door_lines(deck: Deck, network: Network, door: int, budget: int) -> list[str
 def _search_lines(deck: Deck, search: Search) -> list[str]:
     status, listed = search.status, search.listed()
     title = f"DOOR {search.door} CUTS {len(listed)} TRIES {search.tries} {status.value}"
-    lines = [title, *(cut_line(*shown) for shown in listed)]
-    sets = [branches for branches, _ in listed]
-    return lines + bounds_lines(deck, sets, status.value == "FINISHED")
+    sets = tuple(branches for branches, _ in listed)
+    return [
+        title,
+        *(cut_line(*shown) for shown in listed),
+        *bounds_lines(ratings_of(deck), sets, status is Status.FINISHED),
+    ]
 
 
 def cut_line(branches: int, nodes: int) -> str:
@@ -48,9 +54,16 @@ def _numbers(these: int) -> str:
     return " ".join(map(str, members(these)))
 
 
-def bounds_lines(deck: Deck, sets: list[int], finished: bool) -> list[str]:
+def ratings_of(deck: Deck) -> tuple[Rating, ...]:
+    """The ratings of all branches, whatever their condition."""
+    return tuple((branch.m, branch.e) for branch in deck.branches)
+
+
+@lru_cache(maxsize=16)
+def bounds_lines(
+    ratings: tuple[Rating, ...], sets: tuple[int, ...], finished: bool
+) -> tuple[str, str]:
     """The bounds in billionths, and again in nine figures."""
-    ratings = [(branch.m, branch.e) for branch in deck.branches]
     coarse = map(BILLIONTHS.text, bounds(BILLIONTHS, ratings, sets, finished))
     fine = map(NINE_FIGURES.text, bounds(NINE_FIGURES, ratings, sets, finished))
-    return ["LOW %s HIGH %s" % tuple(coarse), "FINE %s %s" % tuple(fine)]
+    return "LOW %s HIGH %s" % tuple(coarse), "FINE %s %s" % tuple(fine)

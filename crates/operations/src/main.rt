@@ -37,7 +37,7 @@ fn small_number(words: &Vec<&str>, at: usize) -> Result<u32, AnyError> {
 
 fn rating(words: &Vec<&str>, at: usize) -> Result<Rating, AnyError> {
     let mantissa = small_number(words, at)?;
-    let exponent = small_number(words, at + 1)?;
+    let exponent = small_number(words, at.saturating_add(1))?;
     let Some(rating) = Rating::new(mantissa, exponent) else {
         return Err("no rating".into());
     };
@@ -54,7 +54,7 @@ fn billionth(words: &Vec<&str>, at: usize) -> Result<Billionth, AnyError> {
 
 fn decimal(words: &Vec<&str>, at: usize) -> Result<Decimal, AnyError> {
     let figures = number(words, at)?;
-    let exponent = small_number(words, at + 1)?;
+    let exponent = small_number(words, at.saturating_add(1))?;
     match (figures, exponent) {
         (0, 9) => Ok(NineFigures::zero()),
         (100_000_000, 8) => Ok(NineFigures::one()),
