@@ -93,18 +93,21 @@ def _chains() -> Plans:
     yield "chains_10_of_3_marked", deck_of(
         32, chains(*[3] * 10), [31, 4, 6], rating=mixed, failed=range(8, 36, 4), working=range(1, 7, 2)
     )
-    yield "chains_2_of_7_beside_tries", _chains_beside_tries()
+    yield "chains_3_of_7_tied", _tied(23, chains(7, 7, 7))
     yield "chains_30_of_1_marked", deck_of(
         32, chains(*[1] * 30), [31], rating=high, working=range(14, 60, 2)
     )
     yield "chains_20_of_1_failed", deck_of(22, chains(*[1] * 20), [21], rating=mixed, failed=range(1, 24, 2))
 
 
-def _chains_beside_tries() -> bytes:
-    """512 cuts, and tries that lead to no row even after the last of them."""
-    pairs = ring(6) + line([0, 3, 5])
-    pairs += line([0, *range(6, 13), 4]) + line([0, *range(13, 20), 4])
-    return deck_of(20, pairs, [4], rating=mixed)
+def _tied(nodes: int, pairs: list[tuple[int, int]]) -> bytes:
+    """One more node, next to the head and tied to the door, the last of the nodes.
+
+    Each row has a try at it, which leads nowhere.  So tries are left to make
+    after the last row.
+    """
+    pairs = [*pairs, (0, nodes), (nodes, nodes - 1)]
+    return deck_of(nodes + 1, pairs, [nodes - 1], rating=mixed, working=[len(pairs) - 1])
 
 
 def _risers() -> Plans:

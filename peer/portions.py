@@ -18,7 +18,7 @@ BUDGETS = (1, 7, 100, 10_000)
 # Plans of all sizes: no try at all, tries by the hundred, no more rows to write.
 CHOSEN = (
     "bridge_every_door",
-    "chains_2_of_7_beside_tries",
+    "chains_3_of_7_tied",
     "complete_08",
     "dense_30_lumps_of_4",
     "fourteen_bus",

@@ -175,7 +175,7 @@ class FullTest(unittest.TestCase):
         self.assertEqual(search.tries, before)
 
     def test_tries_after_the_last_row(self) -> None:
-        data = all_plans()["chains_2_of_7_beside_tries.deck"]
+        data = all_plans()["chains_3_of_7_tied.deck"]
         deck = read_deck(data)
         search = aim(network_of(deck), deck.head, deck.doors[0])
         while len(search.rows) < MOST_ROWS:

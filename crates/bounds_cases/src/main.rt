@@ -19,7 +19,12 @@ use std::fs;
 use std::io::BufRead;
 use std::io::BufReader;
 
-fn tell_bounds<N: RatedNetwork>(rt: &LibcRuntime, network: &N, sets: &[u64], finished: bool) -> Result<(), AnyError> {
+fn tell_bounds<N: RatedNetwork>(
+    rt: &LibcRuntime,
+    network: &N,
+    sets: &[u64],
+    finished: bool,
+) -> Result<(), AnyError> {
     let coarse = bounds_of::<Billionths, N>(network, sets, finished);
     let low = coarse.low;
     let high = coarse.high;
@@ -39,7 +44,13 @@ fn sets_in(heap: Global, words: &[&str]) -> Result<Vec<u64>, AnyError> {
     Ok(sets)
 }
 
-fn tell_list(rt: &LibcRuntime, nodes: u32, rows: &[TableRow], sets: &[u64], finished: bool) -> Result<(), AnyError> {
+fn tell_list(
+    rt: &LibcRuntime,
+    nodes: u32,
+    rows: &[TableRow],
+    sets: &[u64],
+    finished: bool,
+) -> Result<(), AnyError> {
     let mut list = List::new();
     if list.fill(nodes, rows).is_err() {
         return Err("the deck's branches are no network".into());
