@@ -46,7 +46,9 @@ class Products(dict):
         return self.pieces[piece]
 
 
-def bounds(scale: Any, ratings: Sequence[Rating], sets: Sequence[int], finished: bool) -> tuple[Any, Any]:
+def bounds(
+    scale: Any, ratings: Sequence[Rating], sets: Sequence[int], finished: bool
+) -> tuple[Any, Any]:
     """The low and the high bound of branch sets in the order of their list."""
     low = low_bound(scale, ratings, sets)
     # Sets still to come may add anything, so before the end 1 is all there is.

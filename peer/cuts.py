@@ -55,7 +55,7 @@ class Network:
         return found
 
     def branch_set(self, inside: int) -> int:
-        """The branches able to fail that have exactly one end inside."""
+        """The branches able to fail that lead from the inside to the outside."""
         found = 0
         for k, branch in enumerate(self.branches):
             one, other = (inside >> end & 1 for end in branch.ends)
@@ -132,7 +132,7 @@ class Try:
 
 @dataclass(frozen=True)
 class Answer:
-    """The tries made in one call, the rows there are after it, and the status."""
+    """What one call did by itself, and where it left the search."""
 
     tries: int
     rows: int
@@ -189,7 +189,7 @@ class Search:
                 yield node
 
     def _coming(self) -> Try | None:
-        """The lowest candidate of the first row that has one."""
+        """The try that is due, if any row still has a node to try."""
         while self._current < len(self.rows):
             row = self.rows[self._current]
             node = next(self.candidates(row), None)

@@ -40,13 +40,16 @@ def plans() -> Plans:
     yield from _dense()
     yield from _systems()
     yield from _loose()
+    yield from _never_and_always()
 
 
 def _rings() -> Plans:
     yield "ring_20", deck_of(20, ring(20), [10, 1, 19])
     yield "ring_24_mixed", deck_of(24, ring(24), [5, 12], rating=mixed)
     yield "ring_32", deck_of(32, ring(32), [16, 31], rating=ONE_IN_10)
-    yield "ring_32_marked", deck_of(32, ring(32), [16, 2, 9], rating=mixed, working=range(0, 32, 3))
+    yield "ring_32_marked", deck_of(
+        32, ring(32), [16, 2, 9], rating=mixed, working=range(0, 32, 3)
+    )
     yield "ring_26_broken", deck_of(26, ring(26), [13, 20], head=7, rating=high, failed=[25])
     yield "ring_21_doubled", deck_of(21, ring(21) * 3, [7, 14], rating=high)
     yield "necklace_5_of_6", deck_of(26, necklace(5, 6), [23, 13, 1], rating=mixed)
@@ -70,12 +73,16 @@ def _sparse() -> Plans:
     yield "line_32", deck_of(32, line(range(32)), [31, 16, 1], rating=mixed)
     yield "line_32_doubled", deck_of(32, line(range(32)) * 2, [31, 15], rating=high)
     yield "line_22_tripled", deck_of(22, line(range(22)) * 3, [21], rating=mixed)
-    yield "line_30_head_inside", deck_of(30, line(range(30)), [0, 29, 12, 30], head=12, rating=mixed)
+    yield "line_30_head_inside", deck_of(
+        30, line(range(30)), [0, 29, 12, 30], head=12, rating=mixed
+    )
     yield "tree_31", deck_of(31, tree(31), [30, 15, 2], rating=mixed)
     yield "tree_32_of_threes", deck_of(32, tree(32, 3), [31, 13], rating=high)
     yield "star_32", deck_of(32, tree(32, 31), [1, 31, 0], rating=mixed)
     yield "comb_16", deck_of(32, comb(16), [31, 16, 24], rating=mixed)
-    yield "tree_28_with_chords", deck_of(28, tree(28) + [(13, 27), (20, 25)], [27, 20], rating=mixed)
+    yield "tree_28_with_chords", deck_of(
+        28, tree(28) + [(13, 27), (20, 25)], [27, 20], rating=mixed
+    )
     yield "tree_24_leaves_to_door", deck_of(
         24, tree(23, 4) + [(k, 23) for k in range(6, 23, 4)], [23, 9], rating=mixed
     )
@@ -97,7 +104,9 @@ def _chains() -> Plans:
     yield "chains_30_of_1_marked", deck_of(
         32, chains(*[1] * 30), [31], rating=high, working=range(14, 60, 2)
     )
-    yield "chains_20_of_1_failed", deck_of(22, chains(*[1] * 20), [21], rating=mixed, failed=range(1, 24, 2))
+    yield "chains_20_of_1_failed", deck_of(
+        22, chains(*[1] * 20), [21], rating=mixed, failed=range(1, 24, 2)
+    )
 
 
 def _tied(nodes: int, pairs: list[tuple[int, int]]) -> bytes:
@@ -130,16 +139,20 @@ def _ladders() -> Plans:
         32, grid(2, 16), [31, 15], rating=mixed, failed=range(3, 30, 4)
     )
     yield "strip_20", deck_of(20, strip(20), [19, 10], rating=mixed)
-    yield "strip_32_working", deck_of(32, strip(32), [31, 17], rating=mixed, working=range(0, 60, 5))
+    yield "strip_32_working", deck_of(
+        32, strip(32), [31, 17], rating=mixed, working=range(0, 60, 5)
+    )
     yield "grid_3_by_4", deck_of(12, grid(3, 4), [11, 5], rating=mixed)
     yield "grid_4_by_5_full", deck_of(20, grid(4, 5), [19], rating=mixed)
     yield "grid_4_by_8_working", deck_of(
-        32, grid(4, 8), [31, 9, 24], rating=mixed, working=[k for k in range(52) if k % 5 in (1, 3)]
+        32, grid(4, 8), [31, 9, 24], rating=mixed, working=_not_each(26, 2)
     )
     yield "grid_5_by_6_working", deck_of(
-        30, grid(5, 6), [29, 5], rating=high, working=[k for k in range(49) if k % 3 == 1]
+        30, grid(5, 6), [29, 5], rating=high, working=range(1, 49, 3)
     )
-    yield "grid_3_by_9_failed", deck_of(27, grid(3, 9), [26, 8], rating=mixed, failed=range(1, 42, 4))
+    yield "grid_3_by_9_failed", deck_of(
+        27, grid(3, 9), [26, 8], rating=mixed, failed=range(1, 42, 4)
+    )
 
 
 def _dense() -> Plans:
@@ -161,9 +174,7 @@ def _dense() -> Plans:
     yield "dense_6_of_64_loops", deck_of(
         6, _scattered(6, 54) + [(k % 6, k % 6) for k in range(10)], [5, 3], rating=high
     )
-    yield "two_complete_6", deck_of(
-        20, complete(range(6)) + line(range(5, 15)) + moved(complete(range(6)), 14), [19, 9], rating=mixed
-    )
+    yield "two_complete_6", deck_of(20, _two_complete(), [19, 9], rating=mixed)
     yield "complete_7_with_tails", deck_of(
         28, complete(range(7)) + [(k - 7, k) for k in range(7, 28)], [27, 6], rating=mixed
     )
@@ -179,15 +190,21 @@ def _dense() -> Plans:
     )
 
 
+def _two_complete() -> list[tuple[int, int]]:
+    """Two complete networks of six nodes with a long line between them."""
+    one = complete(range(6))
+    return one + line(range(5, 15)) + moved(one, 14)
+
+
 def _scattered(nodes: int, count: int) -> list[tuple[int, int]]:
     """A ring, and then branches across it in all directions."""
     across = [(k % nodes, (11 * k + k // nodes + 4) % nodes) for k in range(count - nodes)]
     return ring(nodes) + across
 
 
-def _not_each(nodes: int, step: int) -> list[int]:
-    """Of the first branches, as many as nodes, all but one in each step."""
-    return [k for k in range(nodes) if k % step != step - 1]
+def _not_each(count: int, step: int) -> list[int]:
+    """Of so many first branches, all but the last in each step."""
+    return [k for k in range(count) if k % step != step - 1]
 
 
 def _systems() -> Plans:
@@ -200,7 +217,9 @@ def _systems() -> Plans:
     yield "thirty_bus_working", deck_of(
         30, THIRTY_BUS, [29, 25, 10, 17], rating=mixed, working=range(0, 41, 3)
     )
-    yield "thirty_bus_failed", deck_of(30, THIRTY_BUS, [29, 25, 10], rating=mixed, failed=range(2, 41, 5))
+    yield "thirty_bus_failed", deck_of(
+        30, THIRTY_BUS, [29, 25, 10], rating=mixed, failed=range(2, 41, 5)
+    )
     yield "dodecahedron_full", deck_of(20, DODECAHEDRON, [19], rating=mixed)
     yield "dodecahedron_working", deck_of(
         20, DODECAHEDRON, [19, 7], rating=mixed, working=range(1, 30, 3)
@@ -210,17 +229,18 @@ def _systems() -> Plans:
 def _loose() -> Plans:
     """Networks with parts that have no way to the head."""
     yield "loose_half", deck_of(30, ring(12) + moved(ring(12), 15), [6, 20, 13, 29], rating=mixed)
-    yield "loose_by_failure", deck_of(
-        24, line(range(24)) + [(0, 5), (6, 11), (12, 17), (18, 23)], [11, 12, 23], rating=mixed, failed=[11]
-    )
-    yield "loose_single_nodes", deck_of(
-        32, [(4 * k, 4 * k + 4) for k in range(7)] + [(0, 12), (8, 20), (16, 28)], [28, 1, 31], rating=mixed
-    )
-    yield "loose_ends_with_loops", deck_of(
-        25, wheel(8) + [(k, k + 8) for k in range(1, 17)] + [(k, k) for k in range(25)], [5, 24], rating=mixed
-    )
+    halves = line(range(24)) + [(0, 5), (6, 11), (12, 17), (18, 23)]
+    yield "loose_by_failure", deck_of(24, halves, [11, 12, 23], rating=mixed, failed=[11])
+    fourths = [(4 * k, 4 * k + 4) for k in range(7)] + [(0, 12), (8, 20), (16, 28)]
+    yield "loose_single_nodes", deck_of(32, fourths, [28, 1, 31], rating=mixed)
+    spokes = wheel(8) + [(k, k + 8) for k in range(1, 17)] + [(k, k) for k in range(25)]
+    yield "loose_ends_with_loops", deck_of(25, spokes, [5, 24], rating=mixed)
+
+
+def _never_and_always() -> Plans:
+    crossed = ring(20) + [(0, 7), (3, 13)]
     yield "never_and_always_20", deck_of(
-        20, ring(20) + [(0, 7), (3, 13)], [10, 15], rating=lambda k: (NEVER, ALWAYS, mixed(k))[k % 3]
+        20, crossed, [10, 15], rating=lambda k: (NEVER, ALWAYS, mixed(k))[k % 3]
     )
     yield "always_24", deck_of(24, ring(24), [12], rating=ALWAYS)
     yield "never_24", deck_of(24, ring(24), [12], rating=NEVER)

@@ -51,7 +51,7 @@ def plans() -> Plans:
 
 
 def worked() -> Plans:
-    """Cases whose rows were first worked out with paper and pencil."""
+    """Cases whose rows were first worked out by hand."""
     yield "worked_01_bridge", bridge()
     yield "worked_02_bridge_2_working", bridge(working=[2])
     yield "worked_03_bridge_2_failed", bridge(failed=[2])
@@ -109,7 +109,9 @@ def _ratings() -> Plans:
     yield "rating_1000000000_each_e", deck_of(
         6, ring(6) + line([0, 3, 5]), [3, 5], rating=lambda k: (1_000_000_000, 9 + k)
     )
-    yield "rating_1_each_e", deck_of(6, ring(6) + line([0, 3, 5]), [3, 4], rating=lambda k: (1, 9 + k))
+    yield "rating_1_each_e", deck_of(
+        6, ring(6) + line([0, 3, 5]), [3, 4], rating=lambda k: (1, 9 + k)
+    )
     yield "rating_999999999_each_e", deck_of(
         4, chains(1, 1), [3], rating=lambda k: (999_999_999, 9 + 3 * k)
     )
@@ -153,8 +155,8 @@ def _sides() -> Plans:
     yield "side_working_chain", deck_of(8, ring(8), [3, 6], working=[0, 1, 4], rating=mixed)
     yield "side_able_beside_working", deck_of(4, ring(4) + ring(4), [2], working=[0, 2])
     yield "side_failed_beside_able", deck_of(4, ring(4) + ring(4), [2], failed=[0, 2, 5])
-    yield "side_ring_behind_the_door", deck_of(7, ring(4) + [(2, 4), (4, 5), (5, 6), (6, 2)], [2, 5])
-    yield "side_ring_behind_the_head", deck_of(7, ring(4) + [(0, 4), (4, 5), (5, 6), (6, 0)], [2, 5])
+    yield "side_ring_behind_the_door", deck_of(7, ring(4) + line([2, 4, 5, 6, 2]), [2, 5])
+    yield "side_ring_behind_the_head", deck_of(7, ring(4) + line([0, 4, 5, 6, 0]), [2, 5])
 
 
 def _shapes() -> Plans:

@@ -167,13 +167,14 @@ def _bad_cards(dice: Dice, lines: list[str]) -> bytes:
             (at, f"BRANCH {one} {other} {m} {dice.pick((0, 8, 19))}"),
         )
     )
-    spoiled = [*lines[:place], text, *lines[place + 1 :]]
     if dice.one_in(4):
-        spoiled = [*lines[: count + 1], f"{dice.pick(('FAILED', 'WORKING'))} {count}", *lines[count + 1 :]]
+        # A mark on the branch after the last.
+        added = [f"{dice.pick(('FAILED', 'WORKING'))} {count}"]
     elif dice.one_in(6):
-        more = MOST_BRANCHES + 1 - count + dice.below(2)
-        spoiled = [*lines[: count + 1], *[lines[at]] * more, *lines[count + 1 :]]
-    return cards(*spoiled)
+        added = [lines[at]] * (MOST_BRANCHES + 1 - count + dice.below(2))
+    else:
+        return cards(*lines[:place], text, *lines[place + 1 :])
+    return cards(*lines[: count + 1], *added, *lines[count + 1 :])
 
 
 def _bad_turn(dice: Dice, lines: list[str]) -> bytes:
@@ -215,7 +216,8 @@ def _bad_end(dice: Dice, lines: list[str]) -> bytes:
 
 
 def _bad_spacing(dice: Dice, text: str) -> str:
-    return dice.pick((" " + text, text + " ", text.replace(" ", "  ", 1), text.replace(" ", "\t", 1)))
+    doubled, tabbed = text.replace(" ", "  ", 1), text.replace(" ", "\t", 1)
+    return dice.pick((" " + text, text + " ", doubled, tabbed))
 
 
 def _bad_word(dice: Dice, text: str) -> str:

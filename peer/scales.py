@@ -1,9 +1,9 @@
 """The two scales, worked straight from what their numbers mean.
 
 A scale is a set of values from 0 to 1.  Every operation works out its exact
-result as a fraction and then looks for the best value of the set: the largest
-that is not above the result (down), or the smallest that is not below it (up).
-Nothing here is quick; `fast_scales` does the same with whole numbers.
+result as a fraction and then looks for it in the set.  If it is not there, the
+next value below is taken (down) or the next one above (up); past 1 both end at
+1.  Nothing here is quick; `fast_scales` does the same with whole numbers.
 """
 
 from __future__ import annotations
@@ -35,11 +35,11 @@ class Scale(ABC, Generic[Number]):
 
     @abstractmethod
     def down(self, exact: Fraction) -> Number:
-        """The largest number not above; the exact value is 0 or more."""
+        """The number itself or the next below; the exact value is 0 or more."""
 
     @abstractmethod
     def up(self, exact: Fraction) -> Number:
-        """The smallest number not below, or 1 if there is none."""
+        """The number itself or the next above, at most 1."""
 
     @abstractmethod
     def text(self, number: Number) -> str:

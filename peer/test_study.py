@@ -432,7 +432,8 @@ class ScaleTest(unittest.TestCase):
         if name == "LESS":
             return scale.text(scale.less(one, other))
         if name == "SUM":
-            return f"{scale.text(scale.sum_down(one, other))} {scale.text(scale.sum_up(one, other))}"
+            down, up = scale.sum_down(one, other), scale.sum_up(one, other)
+            return f"{scale.text(down)} {scale.text(up)}"
         return self.fast_times(scale, one, (rest[0], rest[1]))
 
     def fast_times(self, scale: object, one: int, rating: tuple[int, int]) -> str:
