@@ -48,6 +48,15 @@ def mixed(k: int) -> Rating:
     return (61_803_399 * (k + 1) % 200_000_000 + 1, e) if e == 9 else (_scatter(k), e)
 
 
+def fair(k: int) -> Rating:
+    """From three in a thousand up to three in twenty, written in three ways."""
+    if k % 3 == 0:
+        return 20_000_000 + 27_182_818 * k % 130_000_000, 9
+    if k % 3 == 1:
+        return 200_000_000 + 141_421_356 * k % 800_000_000, 10
+    return 300_000_000 + 173_205_081 * k % 700_000_000, 11
+
+
 def high(k: int) -> Rating:
     """Branches that fail rather often."""
     return 150_000_000 + 97_531_357 * k % 600_000_000, 9

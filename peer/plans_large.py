@@ -14,6 +14,7 @@ from layouts import (
     comb,
     complete,
     deck_of,
+    fair,
     grid,
     high,
     hubs,
@@ -52,12 +53,12 @@ def _rings() -> Plans:
     )
     yield "ring_26_broken", deck_of(26, ring(26), [13, 20], head=7, rating=high, failed=[25])
     yield "ring_21_doubled", deck_of(21, ring(21) * 3, [7, 14], rating=high)
-    yield "necklace_5_of_6", deck_of(26, necklace(5, 6), [23, 13, 1], rating=mixed)
+    yield "necklace_5_of_6", deck_of(26, necklace(5, 6), [23, 13, 1], rating=fair)
     yield "necklace_10_of_4", deck_of(31, necklace(10, 4), [29, 30, 15], rating=high)
     yield "necklace_9_triangles", deck_of(19, necklace(9, 3), [18, 17], rating=mixed)
     yield "ring_of_rings", deck_of(32, ring(8) + _hung_rings(), [4, 11, 31], rating=mixed)
     yield "wheel_12_hub", deck_of(13, wheel(12), [6], rating=mixed)
-    yield "wheel_19_hub", deck_of(20, wheel(19), [10], rating=mixed)
+    yield "wheel_19_hub", deck_of(20, wheel(19), [10], rating=fair)
     yield "wheel_24_hub_half_failed", deck_of(25, wheel(24), [10, 13], failed=range(0, 24, 2))
     yield "wheel_31_working_rim", deck_of(
         32, wheel(31), [2, 30, 16], rating=mixed, working=[k for k in range(31, 62) if k % 3]
@@ -70,7 +71,7 @@ def _hung_rings() -> list[tuple[int, int]]:
 
 
 def _sparse() -> Plans:
-    yield "line_32", deck_of(32, line(range(32)), [31, 16, 1], rating=mixed)
+    yield "line_32", deck_of(32, line(range(32)), [31, 16, 1], rating=fair)
     yield "line_32_doubled", deck_of(32, line(range(32)) * 2, [31, 15], rating=high)
     yield "line_22_tripled", deck_of(22, line(range(22)) * 3, [21], rating=mixed)
     yield "line_30_head_inside", deck_of(
@@ -84,21 +85,22 @@ def _sparse() -> Plans:
         28, tree(28) + [(13, 27), (20, 25)], [27, 20], rating=mixed
     )
     yield "tree_24_leaves_to_door", deck_of(
-        24, tree(23, 4) + [(k, 23) for k in range(6, 23, 4)], [23, 9], rating=mixed
+        24, tree(23, 4) + [(k, 23) for k in range(6, 23, 4)], [23, 9], rating=fair
     )
 
 
 def _chains() -> Plans:
     yield "chains_2_of_15", deck_of(32, chains(15, 15), [31, 15], rating=mixed)
-    yield "chains_3_of_6", deck_of(20, chains(6, 6, 6), [19], rating=mixed)
+    yield "chains_3_of_6", deck_of(20, chains(6, 6, 6), [19], rating=fair)
     yield "chains_2_5_12", deck_of(21, chains(2, 5, 12), [20, 9], rating=mixed)
     yield "chains_4_of_3", deck_of(14, chains(3, 3, 3, 3), [13], rating=ONE_IN_10)
     yield "chains_9_of_1", deck_of(11, chains(*[1] * 9), [10], rating=mixed)
     yield "chains_6_of_5_full", deck_of(32, chains(*[5] * 6), [31], rating=mixed)
     yield "chains_2_2_2_18_full", deck_of(26, chains(2, 2, 2, 18), [25], rating=mixed)
     yield "chains_1_2_4_16", deck_of(25, chains(1, 2, 4, 16), [24], rating=tiny)
+    marks = {"failed": range(8, 36, 4), "working": range(1, 7, 2)}
     yield "chains_10_of_3_marked", deck_of(
-        32, chains(*[3] * 10), [31, 4, 6], rating=mixed, failed=range(8, 36, 4), working=range(1, 7, 2)
+        32, chains(*[3] * 10), [31, 4, 6], rating=fair, **marks
     )
     yield "chains_3_of_7_tied", _tied(23, chains(7, 7, 7))
     yield "chains_30_of_1_marked", deck_of(
@@ -120,73 +122,73 @@ def _tied(nodes: int, pairs: list[tuple[int, int]]) -> bytes:
 
 
 def _risers() -> Plans:
-    yield "two_risers_5", deck_of(16, two_risers(5), [11, 15], rating=mixed)
+    yield "two_risers_5", deck_of(16, two_risers(5), [11, 15], rating=fair)
     yield "two_risers_7_working_left", deck_of(
-        22, two_risers(7), [15, 18, 21], rating=mixed, working=range(7)
+        22, two_risers(7), [15, 18, 21], rating=fair, working=range(7)
     )
     yield "two_risers_10_broken", deck_of(
-        31, two_risers(10), [21, 25, 30], rating=mixed, failed=[4, 15], working=[0, 10]
+        31, two_risers(10), [21, 25, 30], rating=fair, failed=[4, 15], working=[0, 10]
     )
     yield "two_risers_8_loops_out", deck_of(
-        25, two_risers(8), [17, 24], rating=mixed, failed=[17, 21, 24, 27, 30]
+        25, two_risers(8), [17, 24], rating=fair, failed=[17, 21, 24, 27, 30]
     )
 
 
 def _ladders() -> Plans:
-    yield "ladder_10", deck_of(20, grid(2, 10), [19, 9], rating=mixed)
+    yield "ladder_10", deck_of(20, grid(2, 10), [19, 9], rating=fair)
     yield "ladder_12_working_top", deck_of(24, grid(2, 12), [23], working=range(0, 12, 4))
     yield "ladder_16_rungs_out", deck_of(
-        32, grid(2, 16), [31, 15], rating=mixed, failed=range(3, 30, 4)
+        32, grid(2, 16), [31, 15], rating=fair, failed=range(3, 30, 4)
     )
-    yield "strip_20", deck_of(20, strip(20), [19, 10], rating=mixed)
+    yield "strip_20", deck_of(20, strip(20), [19, 10], rating=fair)
     yield "strip_32_working", deck_of(
-        32, strip(32), [31, 17], rating=mixed, working=range(0, 60, 5)
+        32, strip(32), [31, 17], rating=fair, working=range(0, 60, 5)
     )
-    yield "grid_3_by_4", deck_of(12, grid(3, 4), [11, 5], rating=mixed)
-    yield "grid_4_by_5_full", deck_of(20, grid(4, 5), [19], rating=mixed)
+    yield "grid_3_by_4", deck_of(12, grid(3, 4), [11, 5], rating=fair)
+    yield "grid_4_by_5_full", deck_of(20, grid(4, 5), [19], rating=fair)
     yield "grid_4_by_8_working", deck_of(
-        32, grid(4, 8), [31, 9, 24], rating=mixed, working=_not_each(26, 2)
+        32, grid(4, 8), [31, 9, 24, 7], rating=fair, working=range(0, 52, 3)
     )
     yield "grid_5_by_6_working", deck_of(
         30, grid(5, 6), [29, 5], rating=high, working=range(1, 49, 3)
     )
     yield "grid_3_by_9_failed", deck_of(
-        27, grid(3, 9), [26, 8], rating=mixed, failed=range(1, 42, 4)
+        27, grid(3, 9), [26, 8], rating=fair, failed=range(1, 42, 4)
     )
 
 
 def _dense() -> Plans:
     yield "dense_30_lumps_of_4", deck_of(
-        30, _scattered(30, 64), [29, 11, 3], rating=mixed, working=_not_each(30, 4)
+        30, _scattered(30, 64), [29, 11, 3], rating=fair, working=_not_each(30, 4)
     )
     yield "dense_27_lumps_of_3", deck_of(
         27, _scattered(27, 64), [26, 12], head=2, rating=high, working=_not_each(27, 3)
     )
     yield "dense_32_lumps_of_5", deck_of(
-        32, _scattered(32, 64), [31, 17, 1], head=9, rating=mixed, working=_not_each(32, 5)
+        32, _scattered(32, 64), [31, 17, 1], head=9, rating=fair, working=_not_each(32, 5)
     )
     yield "dense_28_many_failed", deck_of(
-        28, _scattered(28, 64), [27, 9], rating=mixed, failed=[*range(3, 28, 9), *range(31, 64)]
+        28, _scattered(28, 64), [27, 9], rating=fair, failed=[*range(3, 28, 9), *range(31, 64)]
     )
-    yield "dense_20_full", deck_of(20, _scattered(20, 64), [19], rating=mixed)
+    yield "dense_20_full", deck_of(20, _scattered(20, 64), [19], rating=fair)
     yield "dense_8_of_64", deck_of(8, _scattered(8, 64), [7, 2], rating=high)
     yield "dense_9_of_64_tiny", deck_of(9, _scattered(9, 64), [8], rating=tiny)
     yield "dense_6_of_64_loops", deck_of(
         6, _scattered(6, 54) + [(k % 6, k % 6) for k in range(10)], [5, 3], rating=high
     )
-    yield "two_complete_6", deck_of(20, _two_complete(), [19, 9], rating=mixed)
+    yield "two_complete_6", deck_of(20, _two_complete(), [19, 9], rating=fair)
     yield "complete_7_with_tails", deck_of(
-        28, complete(range(7)) + [(k - 7, k) for k in range(7, 28)], [27, 6], rating=mixed
+        28, complete(range(7)) + [(k - 7, k) for k in range(7, 28)], [27, 6], rating=fair
     )
     yield "hubs_9", deck_of(11, hubs(9), [1], rating=ONE_IN_10)
     yield "hubs_10_full_between_others", deck_of(
-        13, hubs(10) + [(0, 12)], [12, 1, 12], rating=mixed
+        13, hubs(10) + [(0, 12)], [12, 1, 12], rating=fair
     )
     yield "hubs_30_marked", deck_of(
-        32, hubs(30), [1, 9, 30], rating=mixed, working=range(7, 30), failed=range(30, 33)
+        32, hubs(30), [1, 9, 30], rating=fair, working=range(7, 30), failed=range(30, 33)
     )
     yield "three_hubs_18", deck_of(
-        21, hubs(18, 3), [1, 20], rating=mixed, failed=range(0, 54, 7), working=range(1, 54, 5)
+        21, hubs(18, 3), [1, 20], rating=fair, failed=range(0, 54, 7), working=range(1, 54, 5)
     )
 
 
@@ -208,21 +210,21 @@ def _not_each(count: int, step: int) -> list[int]:
 
 
 def _systems() -> Plans:
-    yield "fourteen_bus", deck_of(14, FOURTEEN_BUS, [13, 7, 2], rating=mixed)
+    yield "fourteen_bus", deck_of(14, FOURTEEN_BUS, [13, 7, 2], rating=fair)
     yield "fourteen_bus_head_9", deck_of(14, FOURTEEN_BUS, [0, 11], head=9, rating=high)
-    yield "twenty_four_bus_full", deck_of(24, TWENTY_FOUR_BUS, [6, 21], rating=mixed)
+    yield "twenty_four_bus_full", deck_of(24, TWENTY_FOUR_BUS, [6, 21], rating=fair)
     yield "twenty_four_bus_working", deck_of(
-        24, TWENTY_FOUR_BUS, [6, 21, 12], rating=mixed, working=range(0, 38, 3)
+        24, TWENTY_FOUR_BUS, [6, 21, 12], rating=fair, working=range(0, 38, 3)
     )
     yield "thirty_bus_working", deck_of(
-        30, THIRTY_BUS, [29, 25, 10, 17], rating=mixed, working=range(0, 41, 3)
+        30, THIRTY_BUS, [29, 25, 10, 17], rating=fair, working=range(0, 41, 3)
     )
     yield "thirty_bus_failed", deck_of(
-        30, THIRTY_BUS, [29, 25, 10], rating=mixed, failed=range(2, 41, 5)
+        30, THIRTY_BUS, [29, 25, 10], rating=fair, failed=range(2, 41, 5)
     )
-    yield "dodecahedron_full", deck_of(20, DODECAHEDRON, [19], rating=mixed)
+    yield "dodecahedron_full", deck_of(20, DODECAHEDRON, [19], rating=fair)
     yield "dodecahedron_working", deck_of(
-        20, DODECAHEDRON, [19, 7], rating=mixed, working=range(1, 30, 3)
+        20, DODECAHEDRON, [19, 7], rating=fair, working=range(1, 30, 3)
     )
 
 
