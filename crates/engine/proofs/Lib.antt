@@ -1,2 +1,2 @@
-pub mod Lawful
+pub mod Listed
 pub mod Steps

@@ -1,3 +1,3 @@
 pub mod Questions
 pub mod Studies
-pub mod Law
+pub mod Runs
