@@ -1,2 +1,4 @@
 pub mod Listed
 pub mod Steps
+pub mod CutTests
+pub mod Later
