@@ -2,3 +2,4 @@ pub mod Listed
 pub mod Steps
 pub mod CutTests
 pub mod Later
+pub mod Lawful
