@@ -3,3 +3,4 @@ pub mod Steps
 pub mod CutTests
 pub mod Later
 pub mod Lawful
+pub mod Points
