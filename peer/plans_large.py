@@ -180,6 +180,7 @@ def _dense() -> Plans:
     yield "complete_7_with_tails", deck_of(
         28, complete(range(7)) + [(k - 7, k) for k in range(7, 28)], [27, 6], rating=fair
     )
+    yield "longest_line", _longest_line()
     yield "hubs_9", deck_of(11, hubs(9), [1], rating=ONE_IN_10)
     yield "hubs_10_full_between_others", deck_of(
         13, hubs(10) + [(0, 12)], [12, 1, 12], rating=fair
@@ -190,6 +191,16 @@ def _dense() -> Plans:
     yield "three_hubs_18", deck_of(
         21, hubs(18, 3), [1, 20], rating=fair, failed=range(0, 54, 7), working=range(1, 54, 5)
     )
+
+
+def _longest_line() -> bytes:
+    """A cut of 54 branches and 11 nodes, all with two figures.
+
+    The branches with one figure join the nodes among themselves.
+    """
+    nodes = range(10, 21)
+    pairs = line(nodes) + [(0, nodes[k % 11]) for k in range(54)]
+    return deck_of(32, pairs, [20], rating=high)
 
 
 def _two_complete() -> list[tuple[int, int]]:

@@ -1,108 +1,244 @@
--- A study after a set-up and any calls is sound.
-use Prim.Native.Nat.{ℕ, _<_}
-use mathlib.Core.Path.{_≡_, refl, ap, sym, subst, _∙_}
+-- The law over runs.
+use Prim.Native.Nat.{ℕ, _*_, _-_, _≤_, _<_}
 use mathlib.Core.Bool.{Bool, true, false, not}
-use mathlib.Core.List.{List, [], _∷_}
+use mathlib.Core.List.{List, [], _∷_, _++_}
+use mathlib.Core.Path.{_≡_, refl, sym, ap, subst, _∙_}
 use lib.Dec.{eqb, ltb}
+use lib.ListN.{length, getD}
+use native.Mathlib.Omega.{arith}
+use Rattle.std.specs.shelf.Lists.{folded, All, Has}
 use Rattle.std.specs.declared.option.Option.{Option}
 use Rattle.std.specs.declared.option.Option.the-variants.{Some, None}
+use Rattle.std.specs.declared.result.Result.{Result}
 use Rattle.std.specs.declared.result.Result.the-variants.{Ok, Err}
+use Rattle.std.proofs.shelf.Elements.{all-from-getD, has-getD}
+use Rattle.std.proofs.shelf.Lists.{length-map, getD-map}
 use Rattle.std.proofs.shelf.Tests.{ltb-true, eqb-false, not-true}
 use Rattle.refusals.specs.declared.study_fault.StudyFault.{StudyFault}
 use Rattle.refusals.specs.declared.study_fault.StudyFault.the-variants.{Head}
-use Rattle.network.specs.Meaning.{Net, Legal}
-use Rattle.network.specs.Questions.{Answer, asked, andThen}
+use Rattle.network.specs.Meaning.{Net, RatedNet, Legal, LegalRated}
+use Rattle.network.specs.Questions.{Answer as Asked, asked, andThen}
+use Rattle.sets.specs.Masks.{_∈_}
 use Rattle.sets.proofs.Members.{clash}
-use Rattle.search.specs.Cuts.{present, sure}
-use Rattle.search.specs.Search.{Search, linked, run}
-use Rattle.search.specs.Statement.{Aim}
+use Rattle.search.specs.declared.row.Row.{Row}
+use Rattle.search.specs.Cuts.{present, sure, MinimalCut}
+use Rattle.search.specs.Search.{Search, linked, run, branch-set, row-at}
+use Rattle.search.specs.Statement.{Aim, Sound}
 use Rattle.search.proofs.Sound.{Inv, start, always, sound}
 use Rattle.search.proofs.Portions.{linked-joined, joined-linked}
+use Rattle.scale.specs.Fractions.{_≤ᶠ_}
+use Rattle.scale.specs.Arithmetic.{Arithmetic, Rounded}
+use Rattle.chance.specs.Bounds.{low, high}
+use Rattle.chance.specs.CutOff.{AbleSet, Within}
+use Rattle.chance.specs.Bracket.{AreCuts, Complete}
+use Rattle.chance.proofs.Enclosed.{brackets}
+use Rattle.chance.proofs.Narrow.{narrowing}
+use Rattle.engine.specs.declared.call.Call.{Call}
+use Rattle.engine.specs.declared.call.Call.the-variants as ask
+use Rattle.engine.specs.declared.call.Answer.{Answer}
 use Rattle.engine.specs.Questions.{door-asked, budget-asked}
-use Rattle.engine.specs.Studies.{State, no-state, set-up-by, aimed-by, aim-from, advanced-when, advance-from, Call, aiming, advancing, showing, called}
-use Rattle.engine.specs.Law.{after, Sound-at, Sound-state, Stays-sound}
+use Rattle.engine.specs.Studies.{State, no-state, set-up, set-up-by, set-up-answer, aimed-by, aim-from, advanced-when, advance-from, called, listed, finished}
+use Rattle.engine.specs.Runs.{after-set-up, after, answers, tries-answered}
+use Rattle.engine.specs.Law.{parts, exact-chance, Point, Stretch, search-at, listed-at, finished-at, tries-at, low-at, high-at, chance-at, Law, Ran, Law-holds}
+use Rattle.engine.proofs.CutTests.{cut-from, cut-able, cut-parts, grows, tells-cuts}
+use Rattle.engine.proofs.Later.{finished-status, Later, Follows, follows, counted}
 
--- what is known of a study at any time
-abbrev Sure-at : Net → Option ℕ → Option ℕ → Search → Type 0
-Sure-at net None door s = Unit {0}
-Sure-at net (Some head) None s = head < net .nodes
-Sure-at net (Some head) (Some door) s = Aim net head door × Inv net head door s
+folded-append : {A B : Type 0} (f : B → A → B) (n : B) (xs ys : List A) → folded f n (xs ++ ys) ≡ folded f (folded f n xs) ys
+folded-append f n [] ys = refl
+folded-append f n (x ∷ xs) ys = folded-append f (f n x) xs ys
 
-abbrev Sure : Net → State → Type 0
-Sure net s = Sure-at net (s .head) (s .door) (s .search)
+-- an accepted set-up says that the head is a node, and forgets what was held
+accepted-head : (t : Bool) → asked t Head ≡ Ok tt → t ≡ true
+accepted-head true e = refl
+accepted-head false e = absurd (let z : _≡_ {A = ℕ} 0 1 = cc in omega arith)
 
-module _ (net : Net) (legal : Legal net) where
-  head-below : (head : ℕ) (door : Option ℕ) (s : Search) → Sure-at net (Some head) door s → head < net .nodes
-  head-below head None s v = v
-  head-below head (Some door) s v = v .0 .head-below
+pub head-below : (net : Net) (head : ℕ) → set-up-answer net head ≡ Ok tt → head < net .nodes
+head-below net head e = ltb-true head (net .nodes) (accepted-head (ltb head (net .nodes)) e)
+
+pub forgotten : (net : Net) (head : ℕ) → set-up-answer net head ≡ Ok tt → (s t : State) → set-up net head s ≡ set-up net head t
+forgotten net head e s t = ap (set-up-by head s) e ∙ sym (ap (set-up-by head t) e)
+
+module _ (net : Net) (legal : Legal net) (head : ℕ) (below : head < net .nodes) where
+  -- what is known of a study at any time
+  abbrev Sure-of : Option ℕ → Search → Type 0
+  Sure-of None s = Unit {0}
+  Sure-of (Some door) s = Aim net head door × Inv net head door s
+
+  abbrev Sure : State → Type 0
+  Sure s = (s .head ≡ Some head) × Sure-of (s .door) (s .search)
 
   -- what the questions of an aim show
-  abbrev Accepted : ℕ → ℕ → Answer StudyFault → Type 0
-  Accepted head door (Ok u) = Aim net head door
-  Accepted head door (Err f) = Unit {0}
+  abbrev Accepted : ℕ → Asked StudyFault → Type 0
+  Accepted door (Ok u) = Aim net head door
+  Accepted door (Err f) = Unit {0}
 
-  accepted : (head door : ℕ) → head < net .nodes → Accepted head door (door-asked net head door)
-  accepted head door l = asked-both (ltb door (net .nodes)) _ _ (λ d. asked-both (not (eqb door head)) _ _ (λ n.
+  accepted : (door : ℕ) → Accepted door (door-asked net head door)
+  accepted door = asked-both (ltb door (net .nodes)) _ _ (λ d. asked-both (not (eqb door head)) _ _ (λ n.
       asked-both (linked net (present net) head door) _ _ (λ j. last (not (linked net (sure net) head door)) _ (λ u. record {
-        head-below = l;
+        head-below = below;
         door-below = ltb-true door (net .nodes) d;
         other = λ e. eqb-false door head (not-true (eqb door head) n) (sym e);
         joined = linked-joined net legal (present net) head door j;
-        unsure = λ c. clash (not-true (linked net (sure net) head door) u) (joined-linked net legal (sure net) head l door c);
+        unsure = λ c. clash (not-true (linked net (sure net) head door) u) (joined-linked net legal (sure net) head below door c);
       }))))
     where
-      asked-both : (t : Bool) (f : StudyFault) (next : Answer StudyFault) → (t ≡ true → Accepted head door next) → Accepted head door (andThen (asked t f) next)
+      asked-both : (t : Bool) (f : StudyFault) (next : Asked StudyFault) → (t ≡ true → Accepted door next) → Accepted door (andThen (asked t f) next)
       asked-both true f next h = h refl
       asked-both false f next h = tt
 
-      last : (t : Bool) (f : StudyFault) → (t ≡ true → Aim net head door) → Accepted head door (asked t f)
+      last : (t : Bool) (f : StudyFault) → (t ≡ true → Aim net head door) → Accepted door (asked t f)
       last true f h = h refl
       last false f h = tt
 
-  aimed-sure : (head door : ℕ) (s : State) → Sure net s → (q : Answer StudyFault) → Accepted head door q → Sure net (aimed-by net head door s q)
-  aimed-sure head door s v (Err f) a = v
-  aimed-sure head door s v (Ok u) a = (a, start legal a)
-
-  aim-sure : (door : ℕ) (s : State) (h : Option ℕ) → s .head ≡ h → Sure net s → Sure net (aim-from net h door s)
-  aim-sure door s None e v = v
-  aim-sure door s (Some head) e v =
-      aimed-sure head door s v (door-asked net head door)
-      (accepted head door (head-below head (s .door) (s .search) (subst (λ x. Sure-at net x (s .door) (s .search)) e v)))
-
-  run-sure : (h : Option ℕ) (door k : ℕ) (s : Search) → Sure-at net h (Some door) s → Sure-at net h (Some door) (run net door k s)
-  run-sure None door k s v = tt
-  run-sure (Some head) door k s v = (v .0, always legal (v .0) k s (v .1))
-
-  advanced-sure : (door k : ℕ) (s : State) → s .door ≡ Some door → Sure net s → (q : Answer StudyFault) → Sure net (advanced-when net door k s q)
-  advanced-sure door k s e v (Err f) = v
-  advanced-sure door k s e v (Ok u) =
-      subst (λ d. Sure-at net (s .head) d (run net door k (s .search))) (sym e) (run-sure (s .head) door k (s .search) (subst (λ d. Sure-at net (s .head) d (s .search)) e v))
-
-  advance-sure : (k : ℕ) (s : State) (d : Option ℕ) → s .door ≡ d → Sure net s → Sure net (advance-from net d k s)
-  advance-sure k s None e v = v
-  advance-sure k s (Some door) e v = advanced-sure door k s e v (budget-asked k)
-
-  after-sure : (head : ℕ) (cs : List Call) → Sure net (after net head cs)
-  after-sure head [] = set-up-sure (ltb head (net .nodes)) refl
+  aim-sure : (door : ℕ) (s : State) → Sure s → Sure (aim-from net (s .head) door s)
+  aim-sure door s v = subst (λ h. Sure (aim-from net h door s)) (sym (v .0)) (go (door-asked net head door) (accepted door))
     where
-      set-up-sure : (t : Bool) → ltb head (net .nodes) ≡ t → Sure net (set-up-by head no-state (asked t Head))
-      set-up-sure true e = ltb-true head (net .nodes) e
-      set-up-sure false e = tt
-  after-sure head (aiming door ∷ cs) = let s = after net head cs in aim-sure door s (s .head) refl (after-sure head cs)
-  after-sure head (advancing k ∷ cs) = let s = after net head cs in advance-sure k s (s .door) refl (after-sure head cs)
-  after-sure head (showing k ∷ cs) = after-sure head cs
+      go : (q : Asked StudyFault) → Accepted door q → Sure (aimed-by net head door s q)
+      go (Ok u) a = (refl, (a, start legal a))
+      go (Err f) a = v
 
-  sure-sound : (h d : Option ℕ) (s : Search) → Sure-at net h d s → Sound-at net h d s
-  sure-sound None d s v = tt
-  sure-sound (Some head) None s v = tt
-  sure-sound (Some head) (Some door) s v = sound legal (v .0) s (v .1)
+  advance-sure : (k : ℕ) (s : State) (d : Option ℕ) → s .door ≡ d → Sure s → Sure (advance-from net d k s)
+  advance-sure k s None e v = v
+  advance-sure k s (Some door) e v = go (budget-asked k)
+    where
+      known : Sure-of (Some door) (s .search)
+      known = subst (λ d. Sure-of d (s .search)) e (v .1)
 
-  after-sound : (head : ℕ) (cs : List Call) → Sound-state net (after net head cs)
-  after-sound head cs = let s = after net head cs in sure-sound (s .head) (s .door) (s .search) (after-sure head cs)
+      go : (q : Asked StudyFault) → Sure (advanced-when net door k s q)
+      go (Ok u) = (v .0, subst (λ d. Sure-of d (run net door k (s .search))) (sym e) (known .0, always legal (known .0) k (s .search) (known .1)))
+      go (Err f) = v
 
-  -- a call that changes nothing, and any call
-  pub kept-sound : (s : State) → Stays-sound net s s
-  kept-sound s head cs e = subst (Sound-state net) (sym e) (after-sound head cs)
+  sure-call : (s : State) (c : Call) → Sure s → Sure (called net s c)
+  sure-call s (ask.Aim door) v = aim-sure door s v
+  sure-call s (ask.Advance k) v = advance-sure k s (s .door) refl v
+  sure-call s (ask.Show k) v = v
+  sure-call s ask.Bounds v = v
 
-  pub call-sound : (c : Call) (s t : State) → t ≡ called net c s → Stays-sound net s t
-  call-sound c s t q head cs e = subst (Sound-state net) (sym (q ∙ ap (called net c) e)) (after-sound head (c ∷ cs))
+  sure-calls : (calls : List Call) (s : State) → Sure s → Sure (folded (called net) s calls)
+  sure-calls [] s v = v
+  sure-calls (c ∷ calls) s v = sure-calls calls (called net s c) (sure-call s c v)
+
+  sure-after : set-up-answer net head ≡ Ok tt → (calls : List Call) → Sure (after net head calls)
+  sure-after e calls = sure-calls calls (set-up net head no-state) (subst (λ q. Sure (set-up-by head no-state q)) (sym e) (refl, tt))
+
+  pub known-at : set-up-answer net head ≡ Ok tt → (calls : List Call) (door : ℕ) → after net head calls .door ≡ Some door
+      → Aim net head door × Inv net head door (after net head calls .search)
+  known-at e calls door h = subst (λ d. Sure-of d (after net head calls .search)) h (sure-after e calls .1)
+
+module _ {Num : Type 0} (net : RatedNet) (legal : LegalRated net) (head : ℕ) (accepts : set-up-answer (net .plain) head ≡ Ok tt) (scale : Arithmetic Num) (rounded : Rounded scale) (calls : List Call) where
+  below : head < net .plain .nodes
+  below = head-below (net .plain) head accepts
+
+  module _ (p : Point net head scale calls) where
+    abbrev sets : List ℕ
+    sets = listed-at net head scale calls p
+
+    abbrev rows : List Row
+    rows = search-at net head scale calls p .rows
+
+    all : Sound (net .plain) head (p .door) (search-at net head scale calls p)
+    all = let (aim, inv) = known-at (net .plain) (legal .plain) head below accepts (p .before) (p .door) (p .aimed) in sound (legal .plain) aim (search-at net head scale calls p) inv
+
+    within : (i : ℕ) → i < length sets → i < length rows
+    within i l = omega (arith, length-map rows (branch-set (net .plain)))
+
+    at : (i : ℕ) → i < length sets → getD sets i 0 ≡ branch-set (net .plain) (row-at rows i)
+    at i l = getD-map (branch-set (net .plain)) rows i _ 0 (within i l)
+
+    placed : (i : ℕ) → i < length rows → i < length sets
+    placed i l = omega (arith, length-map rows (branch-set (net .plain)))
+
+    minimal : All (MinimalCut (net .plain) head (p .door)) sets
+    minimal = all-from-getD (MinimalCut (net .plain) head (p .door)) sets 0 (λ i l. subst (MinimalCut (net .plain) head (p .door)) (sym (at i l)) (all .minimal i (within i l)))
+
+    complete : finished-at net head scale calls p ≡ true → (Z : ℕ) → MinimalCut (net .plain) head (p .door) Z → Has sets Z
+    complete f Z m =
+        let (i, l, e) = all .complete (finished-status _ f) Z m in
+        let k = placed i l in
+        subst (Has sets) (at i k ∙ e) (has-getD sets i 0 k)
+
+    few : tries-at net head scale calls p ≤ length sets * (net .plain .nodes - 2)
+    few =
+        let start = set-up (net .plain) head no-state in
+        let none : 0 ≡ start .search .tries = ap (λ q. set-up-by head no-state q .search .tries) (sym accepts) in
+        let same = counted (net .plain) (net .ratings) scale (p .before) start 0 none in
+        subst (λ n. n ≤ length sets * (net .plain .nodes - 2)) (sym same) (subst (λ n. search-at net head scale calls p .tries ≤ n * (net .plain .nodes - 2)) (sym (length-map rows (branch-set (net .plain)))) (all .few-tries))
+
+    abbrev apart : ℕ → Bool
+    apart = parts net head (p .door)
+
+    are-cuts : AreCuts net apart sets
+    are-cuts = all-from-getD (λ Z. AbleSet net Z × (apart Z ≡ true)) sets 0 (λ i l.
+        let c = all .minimal i (within i l) .cut in
+        subst (λ Z. AbleSet net Z × (apart Z ≡ true)) (sym (at i l)) (cut-able net (legal .plain) head (p .door) below _ c, cut-parts net (legal .plain) head (p .door) below _ c))
+
+    covered : finished-at net head scale calls p ≡ true → Complete net apart sets
+    covered f Z a t =
+        let (i, l, w) = all .covered (finished-status _ f) Z (cut-from net (legal .plain) head (p .door) below Z a t) in
+        let k = placed i l in
+        (i, k, subst (λ c. Within c Z) (sym (at i k)) w)
+
+    enclosed : (low-at net head scale calls p ≤ᶠ chance-at net head scale calls p) × (chance-at net head scale calls p ≤ᶠ high-at net head scale calls p)
+    enclosed = brackets scale rounded net legal sets (finished-at net head scale calls p) _ _ refl refl apart (grows net (legal .plain) head (p .door) below) are-cuts covered
+
+  module _ (s : Stretch net head scale calls) where
+    abbrev first : State
+    first = after (net .plain) head (s .earlier .before)
+
+    abbrev last : State
+    last = after (net .plain) head (s .later .before)
+
+    leads : folded (called (net .plain)) first (s .between) ≡ last
+    leads =
+        sym (folded-append (called (net .plain)) (set-up (net .plain) head no-state) (s .earlier .before) (s .between)) ∙ ap (after (net .plain) head) (sym (s .follows))
+
+    on : Follows (net .plain) (s .earlier .door) first last
+    on = subst (Follows (net .plain) (s .earlier .door) first) leads (follows (net .plain) (net .ratings) scale (s .earlier .door) (s .between) first (s .earlier .aimed) (s .no-aim))
+
+    same-some : {o : Option ℕ} {d e : ℕ} → o ≡ Some d → o ≡ Some e → d ≡ e
+    same-some p q = cc
+
+    same-door : s .later .door ≡ s .earlier .door
+    same-door = same-some (s .later .aimed) (on .0)
+
+    narrower : (low-at net head scale calls (s .earlier) ≤ᶠ low-at net head scale calls (s .later)) × (high-at net head scale calls (s .later) ≤ᶠ high-at net head scale calls (s .earlier))
+    narrower =
+        let door = s .earlier .door in
+        let h = on .1 in
+        let sets = listed (net .plain) (first .search) in
+        let (a, b) = narrowing Num scale rounded (net .ratings) sets (h .more) (finished (net .plain) door (first .search)) (finished (net .plain) door (last .search)) (h .stays) in (
+          subst (λ l. scale .value (low scale (net .ratings) sets) ≤ᶠ scale .value (low scale (net .ratings) l)) (sym (h .list)) a,
+          subst (λ d. scale .value (high scale (net .ratings) (finished (net .plain) d (last .search)) (listed (net .plain) (last .search))) ≤ᶠ high-at net head scale calls (s .earlier)) (sym same-door)
+              (subst (λ l. scale .value (high scale (net .ratings) (finished (net .plain) door (last .search)) l) ≤ᶠ high-at net head scale calls (s .earlier)) (sym (h .list)) b),
+        )
+
+  pub law : Law net head scale calls
+  law = record {
+    every-listed-set-is-a-minimal-cut = minimal;
+    no-set-is-listed-twice = λ p i j l m e. all p .distinct i j (within p i l) (within p j m) (sym (at p i l) ∙ e ∙ at p j m);
+    finished-only-when-every-minimal-cut-is-listed = complete;
+    tries-are-few = few;
+    low-is-at-most-the-chance = λ p. enclosed p .0;
+    high-is-at-least-the-chance = λ p. enclosed p .1;
+    the-chance-counts-just-the-cuts = λ p. tells-cuts net (legal .plain) head (p .door) below;
+    the-door-stays-until-an-aim = same-door;
+    low-does-not-fall-until-an-aim = λ s. narrower s .0;
+    high-does-not-rise-until-an-aim = λ s. narrower s .1;
+  }
+
+  pub ran : (held study : State) (recorded : List (Answer Num))
+      → study ≡ after-set-up (net .plain) head held calls → recorded ≡ answers (net .plain) (net .ratings) scale (set-up (net .plain) head held) calls
+      → Ran net head scale calls study recorded
+  ran held study recorded e f = record {
+    the-head-is-a-node = accepts;
+    the-study-stands-where-the-calls-lead = e ∙ ap (λ s. folded (called (net .plain)) s calls) (anew no-state);
+    every-answer-is-recorded = f ∙ ap (λ s. answers (net .plain) (net .ratings) scale s calls) (anew no-state);
+    what-a-study-held-before-is-forgotten = λ other. (e ∙ ap (λ s. folded (called (net .plain)) s calls) (anew other), f ∙ ap (λ s. answers (net .plain) (net .ratings) scale s calls) (anew other));
+    law = law;
+  }
+    where
+      anew : (other : State) → set-up (net .plain) head held ≡ set-up (net .plain) head other
+      anew other = forgotten (net .plain) head accepts held other
+
+pub law-holds : (Num : Type 0) → Law-holds Num
+law-holds Num net legal head accepts scale rounded calls = law net legal head accepts scale rounded calls

@@ -1,3 +1,4 @@
 pub mod Questions
 pub mod Studies
+pub mod Runs
 pub mod Law
