@@ -33,3 +33,7 @@ module _ (S : ℕ) (start : List ℕ) where
 -- the five parts of a line
 pub five : (a b c d e : List ℕ) → (((a ++ b) ++ c) ++ d) ++ e ≡ a ++ (b ++ (c ++ (d ++ e)))
 five a b c d e = simp append-assoc
+
+-- four parts of a text
+pub four : (a b c d : List ℕ) → ((a ++ b) ++ c) ++ d ≡ a ++ (b ++ (c ++ d))
+four a b c d = simp append-assoc

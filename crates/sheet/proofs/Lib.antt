@@ -1,3 +1,5 @@
 pub mod Lines
 pub mod CutTexts
+pub mod Rows
+pub mod Doors
 pub mod Accepted

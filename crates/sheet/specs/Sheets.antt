@@ -5,6 +5,8 @@ use Prim.Native.Nat.{ℕ, zero, suc}
 use lib.Chars.{codes}
 use lib.ListN.{length}
 use Rattle.std.specs.Written.{decimal}
+use Rattle.std.specs.declared.option.Option.{Option}
+use Rattle.std.specs.declared.option.Option.the-variants.{Some, None}
 use Rattle.std.specs.declared.result.Result.{Result}
 use Rattle.std.specs.declared.result.Result.the-variants.{Ok, Err}
 use Rattle.refusals.specs.declared.deck_fault.DeckRefusal.{DeckRefusal}
@@ -12,7 +14,6 @@ use Rattle.refusals.specs.declared.study_fault.StudyFault.{StudyFault}
 use Rattle.refusals.specs.Refusals.{studyRefusal}
 use Rattle.network.specs.declared.rating.Rating.{Rating}
 use Rattle.network.specs.Meaning.{Net, listNet, ratingOf}
-use Rattle.network.specs.Questions.{Answer}
 use Rattle.search.specs.declared.status.Status.{Status}
 use Rattle.search.specs.declared.status.Status.the-variants.{Finished, Full, More}
 use Rattle.scale.specs.declared.billionths.Billionth.{Billionth}
@@ -22,6 +23,8 @@ use Rattle.scale.specs.NineFigures.{nineFigures}
 use Rattle.chance.specs.declared.bounds.Bounds.{Bounds}
 use Rattle.cut_line.specs.Cuts.{cutLine}
 use Rattle.engine.specs.declared.progress.Progress.{Progress}
+use Rattle.engine.specs.declared.call.Answer.{Answer as Answered}
+use Rattle.engine.specs.declared.call.Answer.the-variants as answers
 use Rattle.engine.specs.declared.call.Call.{Call}
 use Rattle.engine.specs.declared.call.Call.the-variants.{Aim, Advance}
 use Rattle.engine.specs.Questions.{door-asked}
@@ -78,6 +81,19 @@ studyText net ratings d s =
 -- what is done for a door: an aim, and two advances that suffice for any search
 abbrev pub doorCalls : ℕ → List Call
 doorCalls d = Aim d ∷ Advance 10000 ∷ Advance 10000 ∷ []
+
+-- why an aim was refused, if it was
+abbrev pub aimFault : {Num : Type 0} → Answered Num → Option StudyFault
+aimFault (answers.Aim (Ok u)) = None
+aimFault (answers.Aim (Err fault)) = Some fault
+aimFault (answers.Advance a) = None
+aimFault (answers.Show a) = None
+aimFault (answers.Bounds a) = None
+
+-- the same of the first of some answers
+abbrev pub firstFault : {Num : Type 0} → List (Answered Num) → Option StudyFault
+firstFault [] = None
+firstFault (a ∷ rest) = aimFault a
 
 -- the sheet of one door, or the refusal of its head or of the door itself
 abbrev pub doorText : Net → List Rating → ℕ → ℕ → List ℕ

@@ -93,6 +93,13 @@ impl Study {
         Ok(self.try_up_to(network, door, budget))
     }
 
+    // The row count.
+    pub fn rows(&self) -> usize
+        ensures { λ r. ⌜ r ≡ length (state-of (now (self .entry)) .search .rows) ⌝ }
+    {
+        self.table.len()
+    }
+
     // How the search stands: the tries since the aim, the rows, and the status.
     pub fn standing<N: Network>(&self, network: &N) -> Result<Progress, StudyFault>
         ensures { λ r. ⌜ r ≡ standing-answer (net (now (network .entry))) (state-of (now (self .entry))) ⌝ }
