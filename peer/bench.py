@@ -23,7 +23,7 @@ import tempfile
 import time
 from collections.abc import Iterable, Iterator
 from dataclasses import dataclass, field
-from itertools import combinations, islice
+from itertools import combinations, groupby, islice
 from pathlib import Path
 from statistics import median
 
@@ -84,7 +84,7 @@ def programs() -> None:
             raise Missing(f"no {(PRODUCT / name).relative_to(ROOT)}: build the product first")
     if shutil.which("cargo") is None:
         raise Missing("no cargo to build the peer with")
-    build = ["cargo", "build", "--release", "--offline", "--quiet", "-j1"]
+    build = ["cargo", "build", "--release", "--offline", "--quiet", "-j1", "--target-dir", "target"]
     if subprocess.run(build, cwd=CRATE, check=False).returncode:
         raise Missing("the peer does not build")
 
@@ -167,9 +167,14 @@ def timed(race: Race, repeats: int, folder: Path) -> tuple[Side, Side]:
 
 
 HEADER = (
-    f"{'':46} {'product, ms':>19} {'peer, ms':>19} {'product / peer':>15}\n"
-    f"{'':46} {'best':>9} {'median':>9} {'best':>9} {'median':>9} {'best':>7} {'median':>7}  outputs"
+    f"{'':46} {'product, ms':>19} {'peer, ms':>19} {'product / peer':>15}\n{'':46}"
+    f" {'best':>9} {'median':>9} {'best':>9} {'median':>9} {'best':>7} {'median':>7}  outputs"
 )
+
+
+def equal(product: Side, peer: Side) -> bool:
+    """Every run of both sides printed the same bytes."""
+    return len(product.outputs | peer.outputs) == 1
 
 
 def table_line(race: Race, product: Side, peer: Side) -> str:
@@ -180,26 +185,35 @@ def table_line(race: Race, product: Side, peer: Side) -> str:
     return f"{race.title:46}{times}{ratios}  {'equal' if equal(product, peer) else 'DIFFERENT'}"
 
 
-def equal(product: Side, peer: Side) -> bool:
-    """Every run of both sides printed the same bytes."""
-    return len(product.outputs | peer.outputs) == 1
+def growth(before: tuple[Side, Side], now: tuple[Side, Side]) -> str:
+    """How many times longer the best runs took than at the size before."""
+    product, peer = (min(b.seconds) / min(a.seconds) for a, b in zip(before, now))
+    return f", grown {product:.2f} and {peer:.2f} times"
+
+
+def copied(folder: Path) -> Path:
+    """The folder, with the stored decks in it."""
+    for deck in BENCH.glob("*.deck"):
+        shutil.copy(deck, folder)
+    return folder
 
 
 def compared(every: Iterable[Race], repeats: int) -> int:
     """Prints the table and answers how many inputs had different outputs."""
-    different, group = 0, ""
+    different = 0
     print(HEADER)
     with tempfile.TemporaryDirectory() as name:
-        folder = Path(name)
-        for deck in BENCH.glob("*.deck"):
-            shutil.copy(deck, folder)
-        for race in every:
-            if race.group != group:
-                group = race.group
-                print(f"growth {group}")
-            product, peer = timed(race, repeats, folder)
-            different += not equal(product, peer)
-            print(table_line(race, product, peer), flush=True)
+        folder = copied(Path(name))
+        for group, members in groupby(every, key=lambda race: race.group):
+            if group:
+                print(f"growth {group}; the last figures are for product and peer")
+            before = None
+            for race in members:
+                now = timed(race, repeats, folder)
+                different += not equal(*now)
+                more = growth(before, now) if group and before else ""
+                print(table_line(race, *now) + more, flush=True)
+                before = now
     return different
 
 

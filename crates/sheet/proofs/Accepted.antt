@@ -17,6 +17,7 @@ use Rattle.deck.specs.Cards.{cards}
 use Rattle.deck.specs.Doorways.{doorsIn}
 use Rattle.deck.proofs.Doorways.{doors-agree}
 use Rattle.sheet.specs.Descriptions.{Answered, networkText, doorLines, refusalLine, described, description}
+use Rattle.sheet.specs.Sheets.{doorTexts, studied, sheetText}
 use Rattle.deck.proofs.Accepted.{accepted-is-taken}
 
 pub record Read (bytes : List ℕ) (deck : Deck) (table : List TableRow) : Type 0 where
@@ -62,3 +63,20 @@ refused-by (Err f) refusal e = let same : refusal ≡ f = cc in ap refusalLine s
 
 pub refused-text : (bytes : List ℕ) (refusal : DeckRefusal) (table : List TableRow) → Answered bytes (Err refusal) table → refusalLine refusal ≡ description bytes
 refused-text bytes refusal table a = refused-by (readBytes 64 bytes) refusal (a .said)
+
+-- The same for the sheet.
+
+pub accepted-sheet : (bytes : List ℕ) (deck : Deck) (table rows : List TableRow) → Read bytes deck table → rows ≡ take (deck .branches) table
+    → doorTexts (listNet (deck .nodes) rows) (map ratingOf rows) (deck .head) (doorsIn (cards bytes)) ≡ sheetText bytes
+accepted-sheet bytes deck table rows r front =
+    ap (λ ts. doorTexts (listNet (deck .nodes) ts) (map ratingOf ts) (deck .head) (doorsIn (cards bytes))) (front ∙ r .rows)
+    ∙ ap (λ d. doorTexts (listNet (d .nodes) (branchesIn (r .entries))) (map ratingOf (branchesIn (r .entries))) (d .head) (doorsIn (cards bytes))) (r .answer)
+    ∙ ap (doorTexts (listNet (nodesIn (r .entries)) (branchesIn (r .entries))) (map ratingOf (branchesIn (r .entries))) (headIn (r .entries))) (doors-agree bytes 64 (r .entries) (r .said))
+    ∙ sym (ap studied (r .said))
+
+sheet-refused-by : (r : Result (List Entry) DeckRefusal) (refusal : DeckRefusal) → Err refusal ≡ deckRead r → refusalLine refusal ≡ studied r
+sheet-refused-by (Ok es) refusal e = let z : _≡_ {A = ℕ} 0 1 = cc in absurd (omega arith)
+sheet-refused-by (Err f) refusal e = let same : refusal ≡ f = cc in ap refusalLine same
+
+pub refused-sheet : (bytes : List ℕ) (refusal : DeckRefusal) (table : List TableRow) → Answered bytes (Err refusal) table → refusalLine refusal ≡ sheetText bytes
+refused-sheet bytes refusal table a = sheet-refused-by (readBytes 64 bytes) refusal (a .said)

@@ -1,7 +1,7 @@
 -- The sheet of a door whose aim was accepted.
 use Prim.Native.Nat.{ℕ}
 use mathlib.Core.Path.{_≡_, refl, sym, ap, _∙_}
-use mathlib.Core.List.{List}
+use mathlib.Core.List.{List, _∷_, _++_, append-assoc}
 use native.Mathlib.Omega.{arith}
 use Rattle.std.specs.declared.option.Option.the-variants.{Some, None}
 use Rattle.std.specs.declared.result.Result.the-variants.{Ok, Err}
@@ -14,7 +14,7 @@ use Rattle.engine.specs.declared.call.Answer.the-variants as answered
 use Rattle.engine.specs.Questions.{door-asked}
 use Rattle.engine.specs.Studies.{State, no-state, set-up, set-up-by, set-up-answer, aim-asked, aim-answer}
 use Rattle.engine.specs.Runs.{after, answers}
-use Rattle.sheet.specs.Sheets.{refusedLine, studyText, doorCalls, aimFault, firstFault, doorText}
+use Rattle.sheet.specs.Sheets.{refusedLine, studyText, doorCalls, aimFault, firstFault, doorText, doorTexts}
 
 -- what the first aim after a set-up is asked
 first-aim : (net : Net) (head d : ℕ) → set-up-answer net head ≡ Ok tt → aim-answer net d (set-up net head no-state) ≡ door-asked net head d
@@ -36,3 +36,10 @@ pub accepted-text : {Num : Type 0} (net : Net) (ratings : List Rating) (scale : 
 accepted-text {Num} net ratings scale head d e h =
     chosen d (studyText net ratings d (after net head (doorCalls d))) (set-up-answer net head) (door-asked net head d) e
     (sym (same-fault Num (door-asked net head d)) ∙ ap (λ a. aimFault {Num = Num} (answered.Aim a)) (sym (first-aim net head d e)) ∙ sym h)
+
+-- one door more
+pub door-sheet-more : (net : Net) (ratings : List Rating) (head : ℕ) (text next all : List ℕ) (d : ℕ) (ds rest : List ℕ) → text ++ doorTexts net ratings head ds ≡ all → ds ≡ d ∷ rest
+    → next ≡ text ++ doorText net ratings head d → next ++ doorTexts net ratings head rest ≡ all
+door-sheet-more net ratings head text next all d ds rest h e w =
+    ap (λ t. t ++ doorTexts net ratings head rest) w ∙ append-assoc text (doorText net ratings head d) (doorTexts net ratings head rest)
+    ∙ ap (λ es. text ++ doorTexts net ratings head es) (sym e) ∙ h

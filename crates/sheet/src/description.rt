@@ -40,7 +40,7 @@ fn write_doors(text: &mut String, bytes: &[u8]) -> fmt::Result
     Ok(())
 }
 
-fn write_refusal(text: &mut String, refusal: DeckRefusal) -> fmt::Result
+pub(crate) fn write_refusal(text: &mut String, refusal: DeckRefusal) -> fmt::Result
     ensures { λ r. ⌜ made r (λ _. string-bytes (now (text .exit)) ≡ string-bytes (now (text .entry)) ++ refusalLine refusal) ⌝ }
 {
     write!(text, "{refusal}\n")

@@ -28,7 +28,7 @@ use std::alloc::Global;
 use std::fmt;
 use std::fmt::Write;
 
-pub(crate) fn write_refused(text: &mut String, door: u32, fault: StudyFault) -> fmt::Result
+pub fn write_refused(text: &mut String, door: u32, fault: StudyFault) -> fmt::Result
     ensures { λ r. ⌜ made r (λ _. string-bytes (now (text .exit)) ≡ string-bytes (now (text .entry)) ++ refusedLine door fault) ⌝ }
 {
     let number = fault.refusal().number;
@@ -113,7 +113,7 @@ fn write_fine<N: RatedNetwork>(text: &mut String, study: &Study, network: &N) ->
 }
 
 // How the search stands, its cuts, and its bounds in both scales.
-fn write_study<N: RatedNetwork>(text: &mut String, study: &Study, network: &N, door: u32) -> fmt::Result
+pub fn write_study<N: RatedNetwork>(text: &mut String, study: &Study, network: &N, door: u32) -> fmt::Result
     ensures { λ r.
         ⌜
         made

@@ -3,3 +3,4 @@ pub mod cut_text;
 pub mod description;
 pub mod door_text;
 pub mod network_text;
+pub mod study_sheet;

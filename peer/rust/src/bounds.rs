@@ -13,14 +13,17 @@ pub struct Bounds<N> {
 /// The bounds from the branch sets of rows in listing order.
 ///
 /// Bits past the last rating stand for no branch and are passed over.
-pub fn bounds<S: Scale>(
-    ratings: &[Rating],
-    rows: &[BranchSet],
-    finished: bool,
-) -> Bounds<S::Num> {
+pub fn bounds<S: Scale>(ratings: &[Rating], rows: &[BranchSet], finished: bool) -> Bounds<S::Num> {
     let products = Products::<S>::new(ratings);
-    let high = if finished { high(&products, rows) } else { S::ONE };
-    Bounds { low: low(&products, rows), high }
+    let high = if finished {
+        high(&products, rows)
+    } else {
+        S::ONE
+    };
+    Bounds {
+        low: low(&products, rows),
+        high,
+    }
 }
 
 /// The most that any prefix of the rows gives: the sum over its rows less the
@@ -39,7 +42,8 @@ fn low<S: Scale>(products: &Products<S>, rows: &[BranchSet]) -> S::Num {
 
 /// The sum over all rows.
 fn high<S: Scale>(products: &Products<S>, rows: &[BranchSet]) -> S::Num {
-    rows.iter().fold(S::ZERO, |sum, &row| S::sum_up(sum, products.up(row)))
+    rows.iter()
+        .fold(S::ZERO, |sum, &row| S::sum_up(sum, products.up(row)))
 }
 
 /// The ratings as factors, and the products of sets of them.
@@ -114,7 +118,10 @@ mod tests {
     #[test]
     fn a_branch_that_never_fails() {
         let fine = bounds::<NineFigures>(&ratings(1, 0, 9), &[1], true);
-        assert_eq!((fine.low, fine.high), (NineFigures::ZERO, NineFigures::ZERO));
+        assert_eq!(
+            (fine.low, fine.high),
+            (NineFigures::ZERO, NineFigures::ZERO)
+        );
     }
 
     #[test]

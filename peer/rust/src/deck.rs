@@ -53,7 +53,7 @@ impl Fault {
         }
     }
 
-    /// The letter of the layer that asks it.
+    /// The letter of the layer it belongs to.
     pub fn layer(self) -> char {
         match self.number() {
             1..=4 => 'N',
@@ -82,7 +82,10 @@ impl fmt::Display for Refusal {
     fn fmt(&self, f: &mut fmt::Formatter) -> fmt::Result {
         let Self { fault, line } = self;
         let (number, layer, place) = (fault.number(), fault.layer(), fault.place());
-        write!(f, "DECK REFUSED {number} LAYER {layer} PLACE {place} LINE {line}")
+        write!(
+            f,
+            "DECK REFUSED {number} LAYER {layer} PLACE {place} LINE {line}"
+        )
     }
 }
 
@@ -90,15 +93,25 @@ impl fmt::Display for Refusal {
 pub fn read(bytes: &[u8]) -> Result<Deck, Refusal> {
     let text = match bytes {
         [text @ .., b'\n'] if bytes.len() <= MOST_BYTES => text,
-        _ => return Err(Refusal { fault: Fault::Size, line: 0 }),
+        _ => {
+            return Err(Refusal {
+                fault: Fault::Size,
+                line: 0,
+            })
+        }
     };
     let mut reader = Reader::default();
     let mut line = 0;
     for words in text.split(|&byte| byte == b'\n') {
         line += 1;
-        reader.card(words).map_err(|fault| Refusal { fault, line })?;
+        reader
+            .card(words)
+            .map_err(|fault| Refusal { fault, line })?;
     }
-    reader.finished().map_err(|fault| Refusal { fault, line: line + 1 })
+    reader.finished().map_err(|fault| Refusal {
+        fault,
+        line: line + 1,
+    })
 }
 
 /// The five words.
@@ -192,7 +205,11 @@ impl Reader {
             return Err(Fault::End(k));
         }
         let rating = Rating::new(m, e).ok_or(Fault::Rating(k))?;
-        self.branches.push(Branch { ends: [a, b], condition: Condition::Able, rating });
+        self.branches.push(Branch {
+            ends: [a, b],
+            condition: Condition::Able,
+            rating,
+        });
         Ok(())
     }
 
@@ -212,8 +229,15 @@ impl Reader {
         if self.stage != Stage::Doors {
             return Err(Fault::Order);
         }
-        let network = Network { nodes: self.nodes, branches: self.branches };
-        Ok(Deck { head: self.head, network, doors: self.doors })
+        let network = Network {
+            nodes: self.nodes,
+            branches: self.branches,
+        };
+        Ok(Deck {
+            head: self.head,
+            network,
+            doors: self.doors,
+        })
     }
 }
 
@@ -236,7 +260,9 @@ fn number(word: &[u8]) -> Option<u32> {
     if word.is_empty() || word.len() > MOST_DIGITS || !word.iter().all(u8::is_ascii_digit) {
         return None;
     }
-    let value = word.iter().fold(0_u64, |value, digit| value * 10 + u64::from(digit - b'0'));
+    let value = word
+        .iter()
+        .fold(0_u64, |value, digit| value * 10 + u64::from(digit - b'0'));
     u32::try_from(value).ok()
 }
 
@@ -259,16 +285,24 @@ mod tests {
         let deck = read(deck.as_bytes()).unwrap();
         assert_eq!((deck.network.nodes, deck.head), (3, 2));
         assert_eq!(deck.doors, [0, u32::MAX]);
-        let [first, second] = deck.network.branches[..] else { panic!() };
+        let [first, second] = deck.network.branches[..] else {
+            panic!()
+        };
         assert_eq!((first.ends, first.condition), ([0, 1], Condition::Able));
-        assert_eq!((second.ends, second.condition), ([1, 2], Condition::Working));
+        assert_eq!(
+            (second.ends, second.condition),
+            ([1, 2], Condition::Working)
+        );
         assert_eq!(second.rating, Rating::new(1_000_000_000, 18).unwrap());
     }
 
     #[test]
     fn size() {
         assert_eq!(refusal(""), Some((15, 0, 0)));
-        assert_eq!(refusal("NODES 2 0\nBRANCH 0 1 5 9\nDOOR 1"), Some((15, 0, 0)));
+        assert_eq!(
+            refusal("NODES 2 0\nBRANCH 0 1 5 9\nDOOR 1"),
+            Some((15, 0, 0))
+        );
         assert_eq!(refusal(&"\n".repeat(65_536)), Some((16, 0, 1)));
         assert_eq!(refusal(&"\n".repeat(65_537)), Some((15, 0, 0)));
     }
@@ -286,15 +320,37 @@ mod tests {
         assert_eq!(refusal("NODES 2 0\nNODES 2 0\n"), Some((17, 0, 2)));
         assert_eq!(refusal("NODES 2 0\nDOOR 1\n"), Some((17, 0, 2)));
         assert_eq!(refusal("NODES 2 0\n"), Some((17, 0, 2)));
-        assert_eq!(refusal(&format!("NODES 2 0\n{BRANCH}FAILED 0\n{BRANCH}")), Some((17, 0, 4)));
-        assert_eq!(refusal(&format!("NODES 2 0\n{BRANCH}FAILED 0\n")), Some((17, 0, 4)));
-        assert_eq!(refusal(&format!("NODES 2 0\n{BRANCH}DOOR 1\nFAILED 0\n")), Some((17, 0, 4)));
+        assert_eq!(
+            refusal(&format!("NODES 2 0\n{BRANCH}FAILED 0\n{BRANCH}")),
+            Some((17, 0, 4))
+        );
+        assert_eq!(
+            refusal(&format!("NODES 2 0\n{BRANCH}FAILED 0\n")),
+            Some((17, 0, 4))
+        );
+        assert_eq!(
+            refusal(&format!("NODES 2 0\n{BRANCH}DOOR 1\nFAILED 0\n")),
+            Some((17, 0, 4))
+        );
     }
 
     #[test]
     fn card_numbers() {
-        for numbers in ["", " ", " 2", " 2 0 ", " 2 0 0", "  2 0", " 2 +0", " 2 4294967296"] {
-            assert_eq!(refusal(&format!("NODES{numbers}\n")), Some((18, 0, 1)), "{numbers}");
+        for numbers in [
+            "",
+            " ",
+            " 2",
+            " 2 0 ",
+            " 2 0 0",
+            "  2 0",
+            " 2 +0",
+            " 2 4294967296",
+        ] {
+            assert_eq!(
+                refusal(&format!("NODES{numbers}\n")),
+                Some((18, 0, 1)),
+                "{numbers}"
+            );
         }
         assert_eq!(refusal("NODES 2 00000000000\n"), Some((18, 0, 1)));
         assert_eq!(refusal("NODES 2 0\r\n"), Some((18, 0, 1)));
@@ -305,12 +361,24 @@ mod tests {
         assert_eq!(refusal("NODES 1 1\n"), Some((1, 0, 1)));
         assert_eq!(refusal("NODES 33 33\n"), Some((1, 0, 1)));
         assert_eq!(refusal("NODES 32 32\n"), Some((5, 0, 1)));
-        assert_eq!(refusal(&format!("NODES 2 0\n{BRANCH}BRANCH 2 0 5 8\n")), Some((3, 1, 3)));
-        assert_eq!(refusal(&format!("NODES 2 0\n{BRANCH}BRANCH 0 1 5 8\n")), Some((4, 1, 3)));
+        assert_eq!(
+            refusal(&format!("NODES 2 0\n{BRANCH}BRANCH 2 0 5 8\n")),
+            Some((3, 1, 3))
+        );
+        assert_eq!(
+            refusal(&format!("NODES 2 0\n{BRANCH}BRANCH 0 1 5 8\n")),
+            Some((4, 1, 3))
+        );
         let many = BRANCH.repeat(64);
         assert_eq!(refusal(&format!("NODES 2 0\n{many}DOOR 1\n")), None);
-        assert_eq!(refusal(&format!("NODES 2 0\n{many}BRANCH 2 2 5 8\n")), Some((2, 0, 66)));
-        assert_eq!(refusal(&format!("NODES 2 0\n{BRANCH}FAILED 1\n")), Some((19, 0, 3)));
+        assert_eq!(
+            refusal(&format!("NODES 2 0\n{many}BRANCH 2 2 5 8\n")),
+            Some((2, 0, 66))
+        );
+        assert_eq!(
+            refusal(&format!("NODES 2 0\n{BRANCH}FAILED 1\n")),
+            Some((19, 0, 3))
+        );
     }
 
     #[test]

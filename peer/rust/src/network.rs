@@ -108,7 +108,7 @@ pub struct Links {
     present: Neighbours,
     /// Neighbours over working branches.
     working: Neighbours,
-    /// The able branches that have exactly one end at the node.
+    /// The able branches that lead away from the node.
     able: [BranchSet; MOST_NODES],
 }
 
@@ -162,7 +162,7 @@ impl Links {
         around(&self.present, inside) & !inside
     }
 
-    /// The able branches with exactly one end in `inside`.
+    /// The able branches that lead out of `inside`.
     pub fn boundary(&self, inside: NodeSet) -> BranchSet {
         members(inside).fold(0, |set, v| set ^ self.able[v])
     }
@@ -200,7 +200,11 @@ mod tests {
 
     fn branch(a: u32, b: u32, condition: Condition) -> Branch {
         let rating = Rating::new(1, 9).unwrap();
-        Branch { ends: [a, b], condition, rating }
+        Branch {
+            ends: [a, b],
+            condition,
+            rating,
+        }
     }
 
     /// A line 0 - 1 = 2 - 3 with a failed branch to 4 and a loop at 1.
@@ -231,7 +235,10 @@ mod tests {
     #[test]
     fn members_rise() {
         assert_eq!(members(0u64).count(), 0);
-        assert_eq!(members(0x8000_0000_0000_0005u64).collect::<Vec<_>>(), [0, 2, 63]);
+        assert_eq!(
+            members(0x8000_0000_0000_0005u64).collect::<Vec<_>>(),
+            [0, 2, 63]
+        );
     }
 
     #[test]

@@ -8,9 +8,9 @@ pub use nine_figures::{Figures, NineFigures};
 
 use crate::network::Rating;
 
-/// A finite set of values from 0 to 1, with both ends, to which results are
-/// rounded: down to the largest value that is not above, or up to the smallest
-/// that is not below.  Sums above 1 are taken as 1, differences below 0 as 0.
+/// A finite set of values, the least of them 0 and the greatest 1, to which every
+/// result is rounded: down to the nearest value at or under it, or up to the
+/// nearest at or over it.  A sum over 1 counts as 1, a difference under 0 as 0.
 pub trait Scale {
     /// A value of the set; the order is that of the values.
     type Num: Copy + Ord;

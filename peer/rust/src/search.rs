@@ -51,7 +51,11 @@ struct Row {
 impl Row {
     fn new(links: &Links, inside: NodeSet, barred: NodeSet) -> Self {
         let open = links.beside(inside) & !barred;
-        Self { inside, barred, open }
+        Self {
+            inside,
+            barred,
+            open,
+        }
     }
 
     fn bar(&mut self, node: NodeSet) {
@@ -75,7 +79,13 @@ impl<'a> Search<'a> {
     pub fn aim(links: &'a Links, head: u32, door: u32) -> Result<Self, DoorFault> {
         let door = door_set(links, head, door)?;
         let rows = Vec::with_capacity(MOST_ROWS);
-        let mut search = Self { links, door, rows, current: 0, tries: 0 };
+        let mut search = Self {
+            links,
+            door,
+            rows,
+            current: 0,
+            tries: 0,
+        };
         let inside = search.closure(1 << head);
         search.rows.push(Row::new(links, inside, door));
         Ok(search)
@@ -109,7 +119,12 @@ impl<'a> Search<'a> {
 
     /// The branch set and the node vector of each row in listing order.
     pub fn cuts(&self) -> impl ExactSizeIterator<Item = (BranchSet, NodeSet)> + '_ {
-        let shown = |row: &Row| (self.links.boundary(row.inside), self.links.nodes() & !row.inside);
+        let shown = |row: &Row| {
+            (
+                self.links.boundary(row.inside),
+                self.links.nodes() & !row.inside,
+            )
+        };
         self.rows.iter().map(shown)
     }
 
@@ -150,7 +165,11 @@ mod tests {
 
     fn links(nodes: u32, pairs: &[[u32; 2]], marks: &[(usize, Condition)]) -> Links {
         let rating = Rating::new(1, 9).unwrap();
-        let able = |&ends| Branch { ends, condition: Condition::Able, rating };
+        let able = |&ends| Branch {
+            ends,
+            condition: Condition::Able,
+            rating,
+        };
         let mut branches: Vec<_> = pairs.iter().map(able).collect();
         for &(k, condition) in marks {
             branches[k].condition = condition;
@@ -162,7 +181,11 @@ mod tests {
     fn found(links: &Links, door: u32) -> (Vec<BranchSet>, u32, Ending) {
         let mut search = Search::aim(links, 0, door).ok().unwrap();
         let ending = search.run();
-        (search.cuts().map(|(set, _)| set).collect(), search.tries(), ending)
+        (
+            search.cuts().map(|(set, _)| set).collect(),
+            search.tries(),
+            ending,
+        )
     }
 
     fn fault(links: &Links, door: u32) -> Option<u32> {
@@ -183,7 +206,10 @@ mod tests {
     #[test]
     fn bridge() {
         let links = links(4, &BRIDGE, &[]);
-        assert_eq!(found(&links, 3), (vec![0b11, 0b1110, 0b10101, 0b11000], 3, Ending::Finished));
+        assert_eq!(
+            found(&links, 3),
+            (vec![0b11, 0b1110, 0b10101, 0b11000], 3, Ending::Finished)
+        );
     }
 
     #[test]
@@ -198,7 +224,10 @@ mod tests {
     #[test]
     fn a_try_may_write_no_row() {
         let links = links(4, &[[0, 1], [0, 2], [1, 2], [2, 3]], &[]);
-        assert_eq!(found(&links, 3), (vec![0b11, 0b110, 0b1000], 3, Ending::Finished));
+        assert_eq!(
+            found(&links, 3),
+            (vec![0b11, 0b110, 0b1000], 3, Ending::Finished)
+        );
     }
 
     #[test]
@@ -222,8 +251,14 @@ mod tests {
         assert_eq!(fault(&plain, 32), Some(6));
         assert_eq!(fault(&plain, u32::MAX), Some(6));
         assert_eq!(fault(&plain, 0), Some(7));
-        assert_eq!(fault(&links(4, &BRIDGE, &[(3, Failed), (4, Failed)]), 3), Some(8));
-        assert_eq!(fault(&links(4, &BRIDGE, &[(0, Working), (3, Working)]), 3), Some(9));
+        assert_eq!(
+            fault(&links(4, &BRIDGE, &[(3, Failed), (4, Failed)]), 3),
+            Some(8)
+        );
+        assert_eq!(
+            fault(&links(4, &BRIDGE, &[(0, Working), (3, Working)]), 3),
+            Some(9)
+        );
     }
 
     #[test]

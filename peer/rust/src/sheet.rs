@@ -40,7 +40,12 @@ fn print_door(out: &mut impl Write, door: u32, search: &Search, ending: Ending) 
         Ending::Full => "FULL",
     };
     let cuts = search.cuts();
-    writeln!(out, "DOOR {door} CUTS {} TRIES {} {word}", cuts.len(), search.tries())?;
+    writeln!(
+        out,
+        "DOOR {door} CUTS {} TRIES {} {word}",
+        cuts.len(),
+        search.tries()
+    )?;
     for (branches, nodes) in cuts {
         out.write_all(b"CUT ")?;
         for k in members(branches) {
@@ -66,7 +71,14 @@ pub fn print_bounds(
     writeln!(out, "LOW {} HIGH {}", coarse.low, coarse.high)?;
     let fine = bounds::<NineFigures>(ratings, rows, finished);
     let (low, high) = (fine.low, fine.high);
-    writeln!(out, "FINE {} {} {} {}", low.m(), low.e(), high.m(), high.e())
+    writeln!(
+        out,
+        "FINE {} {} {} {}",
+        low.m(),
+        low.e(),
+        high.m(),
+        high.e()
+    )
 }
 
 #[cfg(test)]
@@ -90,7 +102,10 @@ mod tests {
                      FINE 214900000 10 220000000 10\n";
         assert_eq!(printed(&format!("{BRIDGE}DOOR 3\n")), sheet);
         let twice = format!("DOOR 4 REFUSED 6\n{sheet}DOOR 0 REFUSED 7\n{sheet}");
-        assert_eq!(printed(&format!("{BRIDGE}DOOR 4\nDOOR 3\nDOOR 0\nDOOR 3\n")), twice);
+        assert_eq!(
+            printed(&format!("{BRIDGE}DOOR 4\nDOOR 3\nDOOR 0\nDOOR 3\n")),
+            twice
+        );
     }
 
     #[test]
@@ -103,6 +118,9 @@ mod tests {
 
     #[test]
     fn a_refused_deck_prints_its_refusal_alone() {
-        assert_eq!(printed("NODES 2 2\n"), "DECK REFUSED 5 LAYER S PLACE 0 LINE 1\n");
+        assert_eq!(
+            printed("NODES 2 2\n"),
+            "DECK REFUSED 5 LAYER S PLACE 0 LINE 1\n"
+        );
     }
 }

@@ -32,7 +32,11 @@ impl<'a> Case<'a> {
             _ => return Err(format!("neither FINISHED nor OPEN: {line}").into()),
         };
         let rows = words.map(str::parse).collect::<Result<_, _>>()?;
-        Ok(Self { deck, finished, rows })
+        Ok(Self {
+            deck,
+            finished,
+            rows,
+        })
     }
 }
 

@@ -5,7 +5,7 @@ use crate::network::Rating;
 
 const WHOLE: u64 = 1_000_000_000;
 
-/// The values w / 10^9 with w from 0 to 10^9, each held as its w.
+/// Whole billionths up to a billion of them, a value being held as their number.
 pub struct Billionths;
 
 /// A rating, as one whole number over another.
@@ -23,7 +23,10 @@ impl Scale for Billionths {
     const ONE: u64 = WHOLE;
 
     fn factor(rating: Rating) -> Share {
-        Share { part: rating.m(), whole: 10_u64.pow(rating.e()) }
+        Share {
+            part: rating.m(),
+            whole: 10_u64.pow(rating.e()),
+        }
     }
 
     #[inline]

@@ -11,26 +11,42 @@ const LEAST: u64 = 100_000_000;
 /// The first whole number with a tenth figure.
 const TEN_FIGURES: u64 = 1_000_000_000;
 
-/// The exponent of 1; all others are larger.
+/// The exponent of 1 when it is written with nine figures.
 const ONE_E: u32 = 8;
+
+/// The smallest exponent of a value below 1.
+const FIRST_E: u32 = 9;
 
 /// The largest exponent.
 const LAST_E: u32 = 60;
 
 /// The smallest value above 0.
-const SMALLEST: Figures = Figures { m: LEAST, e: LAST_E };
+const SMALLEST: Figures = Figures {
+    m: LEAST,
+    e: LAST_E,
+};
 
 /// The powers of ten up to 10^9.
-const POWERS: [u64; 10] =
-    [1, 10, 100, 1_000, 10_000, 100_000, 1_000_000, 10_000_000, LEAST, TEN_FIGURES];
+const POWERS: [u64; 10] = [
+    1,
+    10,
+    100,
+    1_000,
+    10_000,
+    100_000,
+    1_000_000,
+    10_000_000,
+    LEAST,
+    TEN_FIGURES,
+];
 
-/// The values 0, 1, and m / 10^e with nine figures in m and e from 9 to 60.
+/// Decimal fractions of nine figures down to about 10^-52, together with 0 and 1.
 pub struct NineFigures;
 
 /// The value m / 10^e.
 ///
-/// m has nine figures and e is from 9 to 60, except that 0 is held as 0 / 10^9
-/// and 1 as 100000000 / 10^8.  So every value has one form only.
+/// m has nine figures and e lies in its range, except that 0 is held as
+/// 0 / 10^9 and 1 as 100000000 / 10^8.  So every value has one form only.
 #[derive(Clone, Copy, Debug, PartialEq, Eq)]
 pub struct Figures {
     m: u64,
@@ -62,24 +78,23 @@ impl Figures {
         }
     }
 
-    /// m / 10^e with nine or ten figures in m, rounded down.
+    /// m / 10^e with nine figures in m, rounded down.
     #[inline]
     fn down(m: u64, e: u32) -> Self {
-        let (m, e) = if m < TEN_FIGURES { (m, e) } else { (m / 10, e - 1) };
         match e {
-            0..=ONE_E => NineFigures::ONE,
-            ..=LAST_E => Self { m, e },
+            ..FIRST_E => NineFigures::ONE,
+            FIRST_E..=LAST_E => Self { m, e },
             _ => NineFigures::ZERO,
         }
     }
 
-    /// m / 10^e with nine or ten figures in m, rounded up.
+    /// m / 10^e, rounded up; m has nine figures or has just come to 10^9.
     #[inline]
     fn up(m: u64, e: u32) -> Self {
-        let (m, e) = if m < TEN_FIGURES { (m, e) } else { (m.div_ceil(10), e - 1) };
         match e {
-            0..=ONE_E => NineFigures::ONE,
-            ..=LAST_E => Self { m, e },
+            ..FIRST_E => NineFigures::ONE,
+            FIRST_E..=LAST_E if m < TEN_FIGURES => Self { m, e },
+            FIRST_E..=LAST_E => Self { m: LEAST, e: e - 1 },
             _ => SMALLEST,
         }
     }
@@ -108,7 +123,7 @@ impl Scale for NineFigures {
     /// Every rating is a value of the scale.
     type Factor = Figures;
 
-    const ZERO: Figures = Figures { m: 0, e: 9 };
+    const ZERO: Figures = Figures { m: 0, e: FIRST_E };
     const ONE: Figures = Figures { m: LEAST, e: ONE_E };
 
     fn factor(rating: Rating) -> Figures {
@@ -117,30 +132,48 @@ impl Scale for NineFigures {
 
     #[inline]
     fn times_down(a: Figures, b: Figures) -> Figures {
-        match a.m * b.m {
-            0 => Self::ZERO,
-            product => Figures::down(product / LEAST, a.e + b.e - ONE_E),
+        let (m, e) = (a.m * b.m, a.e + b.e);
+        if m == 0 {
+            Self::ZERO
+        } else if m < LEAST * TEN_FIGURES {
+            Figures::down(m / LEAST, e - 8)
+        } else {
+            Figures::down(m / TEN_FIGURES, e - 9)
         }
     }
 
     #[inline]
     fn times_up(a: Figures, b: Figures) -> Figures {
-        match a.m * b.m {
-            0 => Self::ZERO,
-            product => Figures::up(product.div_ceil(LEAST), a.e + b.e - ONE_E),
+        let (m, e) = (a.m * b.m, a.e + b.e);
+        if m == 0 {
+            Self::ZERO
+        } else if m < LEAST * TEN_FIGURES {
+            Figures::up(ceil(m, LEAST), e - 8)
+        } else {
+            Figures::up(ceil(m, TEN_FIGURES), e - 9)
         }
     }
 
     #[inline]
     fn sum_down(a: Figures, b: Figures) -> Figures {
         let (large, small, unit) = aligned(a, b);
-        Figures::down(large.m + small.m / unit, large.e)
+        let (m, e) = (large.m + small.m / unit, large.e);
+        if m < TEN_FIGURES {
+            Figures::down(m, e)
+        } else {
+            Figures::down(m / 10, e - 1)
+        }
     }
 
     #[inline]
     fn sum_up(a: Figures, b: Figures) -> Figures {
         let (large, small, unit) = aligned(a, b);
-        Figures::up(large.m + small.m.div_ceil(unit), large.e)
+        let (m, e) = (large.m + ceil(small.m, unit), large.e);
+        if m < TEN_FIGURES {
+            Figures::up(m, e)
+        } else {
+            Figures::up(ceil(m, 10), e - 1)
+        }
     }
 
     fn less_down(a: Figures, b: Figures) -> Figures {
@@ -158,7 +191,10 @@ impl Scale for NineFigures {
             // b is less than a tenth of a's last figure.
             Figures { m: a.m - 1, e: a.e }
         } else {
-            Figures { m: TEN_FIGURES - 1, e: a.e + 1 }
+            Figures {
+                m: TEN_FIGURES - 1,
+                e: a.e + 1,
+            }
         }
     }
 }
@@ -172,6 +208,14 @@ fn aligned(a: Figures, b: Figures) -> (Figures, Figures, u64) {
     let (large, small) = if a < b { (b, a) } else { (a, b) };
     let gap = small.e.saturating_sub(large.e).min(9);
     (large, small, POWERS[gap as usize])
+}
+
+/// n / d rounded up.  For a fixed d this takes one multiplication less than
+/// [`u64::div_ceil`], and nothing here comes near the largest number.
+#[inline]
+#[allow(clippy::manual_div_ceil)]
+fn ceil(n: u64, d: u64) -> u64 {
+    (n + (d - 1)) / d
 }
 
 #[cfg(test)]
@@ -198,21 +242,36 @@ mod tests {
     #[test]
     fn products() {
         let billionth = number(LEAST, 17);
-        assert_eq!(NineFigures::times_down(billionth, rating(100_000_000, 9)), number(LEAST, 18));
-        assert_eq!(NineFigures::times_up(billionth, rating(100_000_000, 9)), number(LEAST, 18));
+        assert_eq!(
+            NineFigures::times_down(billionth, rating(100_000_000, 9)),
+            number(LEAST, 18)
+        );
+        assert_eq!(
+            NineFigures::times_up(billionth, rating(100_000_000, 9)),
+            number(LEAST, 18)
+        );
         let high = number(999_999_999, 9);
         assert_eq!(NineFigures::times_down(high, high), number(999_999_998, 9));
         assert_eq!(NineFigures::times_up(high, high), number(999_999_999, 9));
         assert_eq!(NineFigures::times_down(high, NineFigures::ONE), high);
-        assert_eq!(NineFigures::times_up(NineFigures::ONE, NineFigures::ONE), NineFigures::ONE);
-        assert_eq!(NineFigures::times_up(high, NineFigures::ZERO), NineFigures::ZERO);
+        assert_eq!(
+            NineFigures::times_up(NineFigures::ONE, NineFigures::ONE),
+            NineFigures::ONE
+        );
+        assert_eq!(
+            NineFigures::times_up(high, NineFigures::ZERO),
+            NineFigures::ZERO
+        );
     }
 
     #[test]
     fn products_that_carry() {
         // 333333334 * 300000000 has the ten figures 1000000002 above 10^8.
         let third = number(333_333_334, 9);
-        assert_eq!(NineFigures::times_up(third, number(300_000_000, 9)), number(100_000_001, 9));
+        assert_eq!(
+            NineFigures::times_up(third, number(300_000_000, 9)),
+            number(100_000_001, 9)
+        );
         // 316227766 squared is just below 10^17.
         let root = number(316_227_766, 20);
         assert_eq!(NineFigures::times_down(root, root), number(999_999_999, 32));
@@ -221,8 +280,14 @@ mod tests {
 
     #[test]
     fn products_past_the_last_exponent() {
-        assert_eq!(NineFigures::times_down(SMALLEST, rating(999_999_999, 9)), NineFigures::ZERO);
-        assert_eq!(NineFigures::times_up(SMALLEST, rating(999_999_999, 9)), SMALLEST);
+        assert_eq!(
+            NineFigures::times_down(SMALLEST, rating(999_999_999, 9)),
+            NineFigures::ZERO
+        );
+        assert_eq!(
+            NineFigures::times_up(SMALLEST, rating(999_999_999, 9)),
+            SMALLEST
+        );
         assert_eq!(NineFigures::times_up(SMALLEST, rating(1, 18)), SMALLEST);
     }
 
@@ -234,27 +299,45 @@ mod tests {
         assert_eq!(NineFigures::sum_up(a, NineFigures::ZERO), a);
         assert_eq!(NineFigures::sum_down(a, SMALLEST), a);
         assert_eq!(NineFigures::sum_up(a, SMALLEST), number(LEAST, 11));
-        assert_eq!(NineFigures::sum_up(NineFigures::ONE, SMALLEST), NineFigures::ONE);
+        assert_eq!(
+            NineFigures::sum_up(NineFigures::ONE, SMALLEST),
+            NineFigures::ONE
+        );
         let half = number(500_000_000, 9);
         assert_eq!(NineFigures::sum_down(half, half), NineFigures::ONE);
-        assert_eq!(NineFigures::sum_down(half, number(700_000_000, 9)), NineFigures::ONE);
-        assert_eq!(NineFigures::sum_up(number(999_999_999, 9), SMALLEST), NineFigures::ONE);
+        assert_eq!(
+            NineFigures::sum_down(half, number(700_000_000, 9)),
+            NineFigures::ONE
+        );
+        assert_eq!(
+            NineFigures::sum_up(number(999_999_999, 9), SMALLEST),
+            NineFigures::ONE
+        );
     }
 
     #[test]
     fn differences() {
         let one = NineFigures::ONE;
-        assert_eq!(NineFigures::less_down(one, number(LEAST, 28)), number(999_999_999, 9));
+        assert_eq!(
+            NineFigures::less_down(one, number(LEAST, 28)),
+            number(999_999_999, 9)
+        );
         assert_eq!(NineFigures::less_down(one, one), NineFigures::ZERO);
         assert_eq!(NineFigures::less_down(SMALLEST, one), NineFigures::ZERO);
         assert_eq!(NineFigures::less_down(one, NineFigures::ZERO), one);
         let (a, b) = (number(123_456_789, 20), number(123_456_788, 20));
         assert_eq!(NineFigures::less_down(a, b), number(LEAST, 28));
-        assert_eq!(NineFigures::less_down(a, number(LEAST, 30)), number(123_456_788, 20));
+        assert_eq!(
+            NineFigures::less_down(a, number(LEAST, 30)),
+            number(123_456_788, 20)
+        );
         let (c, d) = (number(123_456_789, 60), number(123_456_788, 60));
         assert_eq!(NineFigures::less_down(c, d), NineFigures::ZERO);
         let step = number(999_999_999, 53);
-        assert_eq!(NineFigures::less_down(number(LEAST, 52), step), NineFigures::ZERO);
+        assert_eq!(
+            NineFigures::less_down(number(LEAST, 52), step),
+            NineFigures::ZERO
+        );
     }
 
     #[test]
