@@ -9,7 +9,6 @@ use native.Mathlib.Omega.{arith}
 use Rattle.std.specs.shelf.Lists.{folded, All, Has}
 use Rattle.std.specs.declared.option.Option.{Option}
 use Rattle.std.specs.declared.option.Option.the-variants.{Some, None}
-use Rattle.std.specs.declared.result.Result.{Result}
 use Rattle.std.specs.declared.result.Result.the-variants.{Ok, Err}
 use Rattle.std.proofs.shelf.Elements.{all-from-getD, has-getD}
 use Rattle.std.proofs.shelf.Lists.{length-map, getD-map}
@@ -19,7 +18,6 @@ use Rattle.refusals.specs.declared.study_fault.StudyFault.{StudyFault}
 use Rattle.refusals.specs.declared.study_fault.StudyFault.the-variants.{Head, NoRow}
 use Rattle.network.specs.Meaning.{Net, RatedNet, Legal, LegalRated}
 use Rattle.network.specs.Questions.{Answer as Asked, asked, andThen}
-use Rattle.sets.specs.Masks.{_∈_}
 use Rattle.sets.proofs.Members.{clash}
 use Rattle.search.specs.declared.row.Row.{Row}
 use Rattle.search.specs.Cuts.{present, sure, MinimalCut}
@@ -39,10 +37,10 @@ use Rattle.engine.specs.declared.call.Call.the-variants as ask
 use Rattle.engine.specs.declared.call.Answer.{Answer}
 use Rattle.engine.specs.Questions.{door-asked, budget-asked}
 use Rattle.engine.specs.Studies.{State, no-state, set-up, set-up-by, set-up-answer, aimed-by, aim-from, advanced-when, advance-from, called, shown, show-of, show-answer, bounds-when, listed, finished}
-use Rattle.engine.specs.Runs.{after-set-up, after, answers, tries-answered}
-use Rattle.engine.specs.Law.{parts, exact-chance, Point, Stretch, state-at, search-at, listed-at, finished-at, tries-at, low-at, high-at, chance-at, Law, Ran, Law-holds}
+use Rattle.engine.specs.Runs.{after-set-up, after, answers}
+use Rattle.engine.specs.Law.{parts, Point, Stretch, state-at, search-at, listed-at, finished-at, tries-at, low-at, high-at, chance-at, Law, Ran, Law-holds}
 use Rattle.engine.proofs.CutTests.{cut-from, cut-able, cut-parts, grows, tells-cuts}
-use Rattle.engine.proofs.Later.{finished-status, Later, Follows, follows, counted}
+use Rattle.engine.proofs.Later.{finished-status, Follows, follows, counted}
 
 folded-append : {A B : Type 0} (f : B → A → B) (n : B) (xs ys : List A) → folded f n (xs ++ ys) ≡ folded f (folded f n xs) ys
 folded-append f n [] ys = refl

@@ -1,12 +1,11 @@
 -- Runs worked by hand on the bridge: nodes 0 to 3, branches 0-1, 0-2, 1-2, 1-3 and 2-3, each failing with chance 0.1; the head is node 0.
 use Prim.Native.Nat.{ℕ, _*_}
-use mathlib.Core.Bool.{Bool, true, false}
 use mathlib.Core.List.{List, [], _∷_}
 use mathlib.Core.Path.{_≡_}
 use lib.ListN.{replicate}
 use native.Mathlib.Omega.{arith}
 use Rattle.std.specs.declared.option.Option.{Option}
-use Rattle.std.specs.declared.option.Option.the-variants.{Some, None}
+use Rattle.std.specs.declared.option.Option.the-variants.{Some}
 use Rattle.std.specs.declared.result.Result.the-variants.{Ok, Err}
 use Rattle.refusals.specs.declared.study_fault.StudyFault.the-variants as no
 use Rattle.network.specs.declared.branch.Condition.the-variants.{Able}
