@@ -1,10 +1,10 @@
 -- From one point of a run to the next: what is added, what stays, and what is counted.
-use Prim.Native.Nat.{ℕ, zero, suc, _+_, _-_, _≤_, _<_}
-use mathlib.Core.Bool.{Bool, true, false}
+use Prim.Native.Nat.{ℕ, zero, suc, _+_, _-_, _≤_}
+use mathlib.Core.Bool.{true, false}
 use mathlib.Core.List.{List, [], _∷_, _++_, map, map-append, append-assoc, append-nil}
 use mathlib.Core.Logic.{inl, inr}
 use mathlib.Core.Path.{_≡_, refl, sym, ap, subst, _∙_}
-use lib.ListN.{length, set}
+use lib.ListN.{set}
 use native.Mathlib.Omega.{arith}
 use Rattle.std.specs.shelf.Lists.{folded, All}
 use Rattle.std.specs.declared.option.Option.{Option}
@@ -19,7 +19,7 @@ use Rattle.network.specs.Questions.{Answer as Asked}
 use Rattle.search.specs.declared.row.Row.{Row}
 use Rattle.search.specs.declared.status.Status.{Status}
 use Rattle.search.specs.declared.status.Status.the-variants.{Finished, Full, More}
-use Rattle.search.specs.Search.{Search, branch-set, row-at, current, barring, written, tried, next, run, status}
+use Rattle.search.specs.Search.{Search, branch-set, row-at, current, barring, written, tried, next, run}
 use Rattle.search.proofs.Sound.{by-status}
 use Rattle.search.proofs.Portions.{stands}
 use Rattle.scale.specs.Arithmetic.{Arithmetic}

@@ -9,20 +9,19 @@ use native.Mathlib.Omega.{arith}
 use Rattle.std.specs.shelf.Lists.{folded, All, Has}
 use Rattle.std.specs.declared.option.Option.{Option}
 use Rattle.std.specs.declared.option.Option.the-variants.{Some, None}
-use Rattle.std.specs.declared.result.Result.{Result}
 use Rattle.std.specs.declared.result.Result.the-variants.{Ok, Err}
 use Rattle.std.proofs.shelf.Elements.{all-from-getD, has-getD}
 use Rattle.std.proofs.shelf.Lists.{length-map, getD-map}
+use Rattle.std.proofs.shelf.Maps.{nth-getD, nth-past}
 use Rattle.std.proofs.shelf.Tests.{ltb-true, eqb-false, not-true}
 use Rattle.refusals.specs.declared.study_fault.StudyFault.{StudyFault}
-use Rattle.refusals.specs.declared.study_fault.StudyFault.the-variants.{Head}
+use Rattle.refusals.specs.declared.study_fault.StudyFault.the-variants.{Head, NoRow}
 use Rattle.network.specs.Meaning.{Net, RatedNet, Legal, LegalRated}
 use Rattle.network.specs.Questions.{Answer as Asked, asked, andThen}
-use Rattle.sets.specs.Masks.{_∈_}
 use Rattle.sets.proofs.Members.{clash}
 use Rattle.search.specs.declared.row.Row.{Row}
 use Rattle.search.specs.Cuts.{present, sure, MinimalCut}
-use Rattle.search.specs.Search.{Search, linked, run, branch-set, row-at}
+use Rattle.search.specs.Search.{Search, linked, run, branch-set, node-vector, row-at}
 use Rattle.search.specs.Statement.{Aim, Sound}
 use Rattle.search.proofs.Sound.{Inv, start, always, sound}
 use Rattle.search.proofs.Portions.{linked-joined, joined-linked}
@@ -37,11 +36,11 @@ use Rattle.engine.specs.declared.call.Call.{Call}
 use Rattle.engine.specs.declared.call.Call.the-variants as ask
 use Rattle.engine.specs.declared.call.Answer.{Answer}
 use Rattle.engine.specs.Questions.{door-asked, budget-asked}
-use Rattle.engine.specs.Studies.{State, no-state, set-up, set-up-by, set-up-answer, aimed-by, aim-from, advanced-when, advance-from, called, listed, finished}
-use Rattle.engine.specs.Runs.{after-set-up, after, answers, tries-answered}
-use Rattle.engine.specs.Law.{parts, exact-chance, Point, Stretch, search-at, listed-at, finished-at, tries-at, low-at, high-at, chance-at, Law, Ran, Law-holds}
+use Rattle.engine.specs.Studies.{State, no-state, set-up, set-up-by, set-up-answer, aimed-by, aim-from, advanced-when, advance-from, called, shown, show-of, show-answer, bounds-when, listed, finished}
+use Rattle.engine.specs.Runs.{after-set-up, after, answers}
+use Rattle.engine.specs.Law.{parts, Point, Stretch, state-at, search-at, listed-at, finished-at, tries-at, low-at, high-at, chance-at, Law, Ran, Law-holds}
 use Rattle.engine.proofs.CutTests.{cut-from, cut-able, cut-parts, grows, tells-cuts}
-use Rattle.engine.proofs.Later.{finished-status, Later, Follows, follows, counted}
+use Rattle.engine.proofs.Later.{finished-status, Follows, follows, counted}
 
 folded-append : {A B : Type 0} (f : B → A → B) (n : B) (xs ys : List A) → folded f n (xs ++ ys) ≡ folded f (folded f n xs) ys
 folded-append f n [] ys = refl
@@ -148,6 +147,16 @@ module _ {Num : Type 0} (net : RatedNet) (legal : LegalRated net) (head : ℕ) (
     placed : (i : ℕ) → i < length rows → i < length sets
     placed i l = omega (arith, length-map rows (branch-set (net .plain)))
 
+    shows : (k : ℕ) → k < length sets → (vector : ℕ) × (show-answer (net .plain) k (state-at net head scale calls p) ≡ Ok (getD sets k 0, vector))
+    shows k l =
+        let row = row-at rows k in (
+          node-vector (net .plain) row,
+          ap (show-of (net .plain) k rows) (p .aimed) ∙ ap (shown (net .plain)) (nth-getD rows k _ (within k l)) ∙ ap (λ Z. Ok (Z, node-vector (net .plain) row)) (sym (at k l)),
+        )
+
+    shows-no-more : (k : ℕ) → length sets ≤ k → show-answer (net .plain) k (state-at net head scale calls p) ≡ Err NoRow
+    shows-no-more k l = ap (show-of (net .plain) k rows) (p .aimed) ∙ ap (shown (net .plain)) (nth-past rows k (omega (arith, length-map rows (branch-set (net .plain)))))
+
     minimal : All (MinimalCut (net .plain) head (p .door)) sets
     minimal = all-from-getD (MinimalCut (net .plain) head (p .door)) sets 0 (λ i l. subst (MinimalCut (net .plain) head (p .door)) (sym (at i l)) (all .minimal i (within i l)))
 
@@ -214,6 +223,9 @@ module _ {Num : Type 0} (net : RatedNet) (legal : LegalRated net) (head : ℕ) (
 
   pub law : Law net head scale calls
   law = record {
+    showing-answers-the-list = shows;
+    showing-ends-with-the-list = shows-no-more;
+    asking-answers-the-bounds = λ p. ap (λ d. bounds-when (net .plain) (net .ratings) scale d (search-at net head scale calls p)) (p .aimed);
     every-listed-set-is-a-minimal-cut = minimal;
     no-set-is-listed-twice = λ p i j l m e. all p .distinct i j (within p i l) (within p j m) (sym (at p i l) ∙ e ∙ at p j m);
     finished-only-when-every-minimal-cut-is-listed = complete;

@@ -29,10 +29,10 @@ module _ {Num : Type 0} (net : Net) (ratings : List Rating) (scale : Arithmetic 
     state-more d l t e =
         e ∙ ap (λ u. called net u (getD calls k d)) so-far ∙ sym (folded-push (called net) start (take k calls) (getD calls k d)) ∙ ap (folded (called net) start) (sym (take-more calls k d l))
 
-    pub answers-more : (d : Call) → k < length calls → (given : List (Answer Num)) (a : Answer Num) → given ≡ answers net ratings scale start (take k calls) → a ≡ answer net ratings scale s (getD calls k d)
-        → given ++ (a ∷ []) ≡ answers net ratings scale start (take (k + 1) calls)
-    answers-more d l given a g e =
-        ap₂ (λ (p : List (Answer Num)) (b : Answer Num). p ++ (b ∷ [])) g (e ∙ ap (λ u. answer net ratings scale u (getD calls k d)) so-far)
+    pub answers-more : (d : Call) → k < length calls → (given later : List (Answer Num)) (a : Answer Num) → later ≡ given ++ (a ∷ [])
+        → given ≡ answers net ratings scale start (take k calls) → a ≡ answer net ratings scale s (getD calls k d) → later ≡ answers net ratings scale start (take (k + 1) calls)
+    answers-more d l given later a p g e =
+        p ∙ ap₂ (λ (q : List (Answer Num)) (b : Answer Num). q ++ (b ∷ [])) g (e ∙ ap (λ u. answer net ratings scale u (getD calls k d)) so-far)
         ∙ sym (answers-push (take k calls) (getD calls k d) start) ∙ ap (answers net ratings scale start) (sym (take-more calls k d l))
 
 -- all calls made, on a rated network whose plain network is `plain`

@@ -8,17 +8,19 @@ use Rattle.std.specs.Orderings.{Decides}
 use Rattle.std.specs.shelf.Lists.{All, Has}
 use Rattle.std.specs.declared.option.Option.the-variants.{Some}
 use Rattle.std.specs.declared.result.Result.the-variants.{Ok, Err}
+use Rattle.refusals.specs.declared.study_fault.StudyFault.the-variants.{NoRow}
 use Rattle.network.specs.Meaning.{RatedNet, LegalRated}
 use Rattle.search.specs.Cuts.{branches-of, without, Cut, MinimalCut}
 use Rattle.search.specs.Search.{Search, linked}
 use Rattle.scale.specs.Fractions.{Fraction, _≤ᶠ_}
 use Rattle.scale.specs.Arithmetic.{Arithmetic, Rounded}
+use Rattle.chance.specs.declared.bounds.Bounds.{Bounds}
 use Rattle.chance.specs.CutOff.{ableSet, cutOffChance}
 use Rattle.engine.specs.declared.call.Call.{Call}
 use Rattle.engine.specs.declared.call.Answer.{Answer}
 use Rattle.engine.specs.declared.call.CarryFault.{CarryFault}
 use Rattle.engine.specs.declared.call.CarryFault.the-variants.{Study, Memory}
-use Rattle.engine.specs.Studies.{State, no-state, set-up, set-up-answer, listed, finished, low-bound, high-bound}
+use Rattle.engine.specs.Studies.{State, no-state, set-up, set-up-answer, listed, finished, show-answer, low-bound, high-bound, bounds-answer}
 use Rattle.engine.specs.Runs.{after-set-up, after, answers, accepts-aim, tries-answered}
 
 -- whether head and door are unjoined once every branch of Z counts as failed
@@ -38,8 +40,11 @@ module _ {Num : Type 0} (net : RatedNet) (head : ℕ) (scale : Arithmetic Num) (
     pub door : ℕ
     pub aimed : after (net .plain) head before .door ≡ Some door
 
+  abbrev pub state-at : Point → State
+  state-at p = after (net .plain) head (p .before)
+
   abbrev pub search-at : Point → Search
-  search-at p = after (net .plain) head (p .before) .search
+  search-at p = state-at p .search
 
   -- the branch sets that are listed there, and whether the search is finished there
   abbrev pub listed-at : Point → List ℕ
@@ -52,12 +57,15 @@ module _ {Num : Type 0} (net : RatedNet) (head : ℕ) (scale : Arithmetic Num) (
   abbrev pub tries-at : Point → ℕ
   tries-at p = tries-answered (answers (net .plain) (net .ratings) scale (set-up (net .plain) head no-state) (p .before))
 
-  -- the values of the bounds that asking there would answer, and of the exact chance
+  -- the bounds there, their values, and the exact chance
+  abbrev pub bounds-at : Point → Bounds Num
+  bounds-at p = record { low = low-bound (net .plain) (net .ratings) scale (search-at p); high = high-bound (net .plain) (net .ratings) scale (p .door) (search-at p) }
+
   abbrev pub low-at : Point → Fraction
-  low-at p = scale .value (low-bound (net .plain) (net .ratings) scale (search-at p))
+  low-at p = scale .value (bounds-at p .low)
 
   abbrev pub high-at : Point → Fraction
-  high-at p = scale .value (high-bound (net .plain) (net .ratings) scale (p .door) (search-at p))
+  high-at p = scale .value (bounds-at p .high)
 
   abbrev pub chance-at : Point → Fraction
   chance-at p = exact-chance net head (p .door)
@@ -71,13 +79,21 @@ module _ {Num : Type 0} (net : RatedNet) (head : ℕ) (scale : Arithmetic Num) (
     pub no-aim : All (λ given. accepts-aim given ≡ false) (answers (net .plain) (net .ratings) scale (after (net .plain) head (earlier .before)) between)
 
   pub record Law : Type 0 where
+    -- the list and the bounds are what showing and asking answer
+    pub showing-answers-the-list : (p : Point) (k : ℕ) → k < length (listed-at p) → (vector : ℕ) × (show-answer (net .plain) k (state-at p) ≡ Ok (getD (listed-at p) k 0, vector))
+    pub showing-ends-with-the-list : (p : Point) (k : ℕ) → length (listed-at p) ≤ k → show-answer (net .plain) k (state-at p) ≡ Err NoRow
+    pub asking-answers-the-bounds : (p : Point) → bounds-answer (net .plain) (net .ratings) scale (state-at p) ≡ Ok (bounds-at p)
+    -- the list has minimal cuts only, each once, and all of them once the search is finished
     pub every-listed-set-is-a-minimal-cut : (p : Point) → All (MinimalCut (net .plain) head (p .door)) (listed-at p)
     pub no-set-is-listed-twice : (p : Point) (i j : ℕ) → i < length (listed-at p) → j < length (listed-at p) → getD (listed-at p) i 0 ≡ getD (listed-at p) j 0 → i ≡ j
     pub finished-only-when-every-minimal-cut-is-listed : (p : Point) → finished-at p ≡ true → (Z : ℕ) → MinimalCut (net .plain) head (p .door) Z → Has (listed-at p) Z
+    -- at most two less than the node count for each row
     pub tries-are-few : (p : Point) → tries-at p ≤ length (listed-at p) * (net .plain .nodes - 2)
+    -- the exact chance lies between the bounds
     pub low-is-at-most-the-chance : (p : Point) → low-at p ≤ᶠ chance-at p
     pub high-is-at-least-the-chance : (p : Point) → chance-at p ≤ᶠ high-at p
     pub the-chance-counts-just-the-cuts : (p : Point) (Z : ℕ) → Z < 2 ^ branches-of (net .plain) → Decides (ableSet net Z && parts net head (p .door) Z) (Cut (net .plain) head (p .door) Z)
+    -- the bounds only come closer
     pub the-door-stays-until-an-aim : (s : Stretch) → s .later .door ≡ s .earlier .door
     pub low-does-not-fall-until-an-aim : (s : Stretch) → low-at (s .earlier) ≤ᶠ low-at (s .later)
     pub high-does-not-rise-until-an-aim : (s : Stretch) → high-at (s .later) ≤ᶠ high-at (s .earlier)

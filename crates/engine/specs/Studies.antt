@@ -58,6 +58,11 @@ set-up-by head s (Err f) = s
 abbrev pub set-up : Net → ℕ → State → State
 set-up net head s = set-up-by head s (set-up-answer net head)
 
+-- after an accepted set-up a study is as any other would be after it, whatever that one held
+abbrev pub Forgets : Net → ℕ → Answer StudyFault → State → Type 0
+Forgets net head (Ok u) s = (held : State) → s ≡ set-up net head held
+Forgets net head (Err f) s = Unit {0}
+
 -- Aim: before a set-up there is no node that could be the door
 
 abbrev pub aim-asked : Net → Option ℕ → ℕ → Answer StudyFault

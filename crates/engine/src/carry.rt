@@ -4,6 +4,8 @@ ghost use Rattle.std.specs.Of.Vec.{vec-items};
 ghost use Rattle.std.specs.Results.{Cases};
 ghost use Rattle.engine.specs.Studies.{state-of, called};
 ghost use Rattle.engine.specs.Runs.{answer as answerOf};
+ghost use Rattle.scale.specs.Arithmetic.{Arithmetic};
+ghost use Rattle.engine.specs.Cases.{Worked};
 ghost use Rattle.engine.specs.Law.{Ran, Stopped, Law-holds};
 use crate::call::Answer;
 use crate::call::Call;
@@ -67,6 +69,13 @@ pub fn carry_out<S: Scale, N: RatedNetwork>(
 // The law holds of every list of calls, in every scale with numbers of type T.
 pub fn law_holds<T>() -> bool
     ensures { λ _. ⌜ Law-holds T ⌝ }
+{
+    true
+}
+
+// Runs on a small network, worked to the end.
+pub fn worked_runs_hold<T>() -> bool
+    ensures { λ _. ⌜ ((scale : Arithmetic T) → Worked scale) ⌝ }
 {
     true
 }

@@ -32,7 +32,13 @@ fn advance_all<N: Network>(study: &mut Study, network: &N, budget: u32) -> Resul
     Err("the search goes on".into())
 }
 
-fn tell_door<N: RatedNetwork>(rt: &LibcRuntime, study: &mut Study, network: &N, door: u32, budget: u32) -> Result<(), AnyError> {
+fn tell_door<N: RatedNetwork>(
+    rt: &LibcRuntime,
+    study: &mut Study,
+    network: &N,
+    door: u32,
+    budget: u32,
+) -> Result<(), AnyError> {
     let mut text = String::new(rt.alloc());
     match study.aim(network, door) {
         Ok(()) => {
@@ -45,7 +51,13 @@ fn tell_door<N: RatedNetwork>(rt: &LibcRuntime, study: &mut Study, network: &N, 
     Ok(())
 }
 
-fn tell_doors<N: RatedNetwork>(rt: &LibcRuntime, network: &N, head: u32, bytes: &[u8], budget: u32) -> Result<(), AnyError> {
+fn tell_doors<N: RatedNetwork>(
+    rt: &LibcRuntime,
+    network: &N,
+    head: u32,
+    bytes: &[u8],
+    budget: u32,
+) -> Result<(), AnyError> {
     let mut study = Study::new();
     if study.set_up(network, head).is_err() {
         return Err("the head is refused".into());
@@ -57,7 +69,13 @@ fn tell_doors<N: RatedNetwork>(rt: &LibcRuntime, network: &N, head: u32, bytes: 
     Ok(())
 }
 
-fn tell_list(rt: &LibcRuntime, deck: Deck, rows: &[TableRow], bytes: &[u8], budget: u32) -> Result<(), AnyError> {
+fn tell_list(
+    rt: &LibcRuntime,
+    deck: Deck,
+    rows: &[TableRow],
+    bytes: &[u8],
+    budget: u32,
+) -> Result<(), AnyError> {
     let mut list = List::new();
     if list.fill(deck.nodes, rows).is_err() {
         return Err("the deck's branches are no network".into());

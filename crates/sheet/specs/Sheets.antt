@@ -101,9 +101,9 @@ doorText net ratings head d =
     elim (set-up-answer net head) [
       | Err fault ↦ refusedLine d fault
       | Ok u ↦ elim (door-asked net head d) [
-          | Err fault ↦ refusedLine d fault
-          | Ok v ↦ studyText net ratings d (after net head (doorCalls d))
-        ]
+        | Err fault ↦ refusedLine d fault
+        | Ok v ↦ studyText net ratings d (after net head (doorCalls d))
+      ]
     ]
 
 abbrev pub doorTexts : Net → List Rating → ℕ → List ℕ → List ℕ

@@ -46,7 +46,12 @@ fn status_word(status: Status) -> &'static str
 }
 
 // How the search stands.
-fn write_standing<N: Network>(text: &mut String, study: &Study, network: &N, door: u32) -> fmt::Result
+fn write_standing<N: Network>(
+    text: &mut String,
+    study: &Study,
+    network: &N,
+    door: u32,
+) -> fmt::Result
     ensures { λ r. ⌜ made r (λ _. string-bytes (now (text .exit)) ≡ string-bytes (now (text .entry)) ++ standingLine door (standing-answer (N·Network .net (now (network .entry))) (state-of (now (study .entry))))) ⌝ }
 {
     let Ok(standing) = study.standing(network) else {
@@ -69,7 +74,12 @@ fn write_row<N: Network>(text: &mut String, study: &Study, network: &N, k: usize
 }
 
 // The lines of the first rows.
-fn write_rows<N: Network>(text: &mut String, study: &Study, network: &N, count: usize) -> fmt::Result
+fn write_rows<N: Network>(
+    text: &mut String,
+    study: &Study,
+    network: &N,
+    count: usize,
+) -> fmt::Result
     ensures { λ r. ⌜ made r (λ _. string-bytes (now (text .exit)) ≡ string-bytes (now (text .entry)) ++ cutLines (N·Network .net (now (network .entry))) (state-of (now (study .entry))) count) ⌝ }
 {
     for k in 0..count {
@@ -113,7 +123,12 @@ fn write_fine<N: RatedNetwork>(text: &mut String, study: &Study, network: &N) ->
 }
 
 // How the search stands, its cuts, and its bounds in both scales.
-pub fn write_study<N: RatedNetwork>(text: &mut String, study: &Study, network: &N, door: u32) -> fmt::Result
+pub fn write_study<N: RatedNetwork>(
+    text: &mut String,
+    study: &Study,
+    network: &N,
+    door: u32,
+) -> fmt::Result
     ensures { λ r.
         ⌜
         made
@@ -151,7 +166,14 @@ fn first_fault(answers: &[Answer<Billionth>]) -> Option<StudyFault>
 }
 
 // The sheet of a door, or its refusal. The study may have held anything before.
-pub fn write_door<N: RatedNetwork>(heap: Global, text: &mut String, study: &mut Study, network: &N, head: u32, door: u32) -> fmt::Result
+pub fn write_door<N: RatedNetwork>(
+    heap: Global,
+    text: &mut String,
+    study: &mut Study,
+    network: &N,
+    head: u32,
+    door: u32,
+) -> fmt::Result
     ensures { λ r.
         ⌜
         made
@@ -161,7 +183,11 @@ pub fn write_door<N: RatedNetwork>(heap: Global, text: &mut String, study: &mut 
 {
     // asked for its promise that branches and ratings belong to one network
     let _ = network.rating(0);
-    let calls = [Call::Aim(door), Call::Advance(10_000), Call::Advance(10_000)];
+    let calls = [
+        Call::Aim(door),
+        Call::Advance(10_000),
+        Call::Advance(10_000),
+    ];
     match carry_out::<Billionths, N>(heap, study, network, head, &calls) {
         Ok(answers) => match first_fault(&answers) {
             Some(fault) => write_refused(text, door, fault),

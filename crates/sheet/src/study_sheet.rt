@@ -26,7 +26,13 @@ use std::alloc::Global;
 use std::fmt;
 
 // The sheets of a deck's doors, one after the other, all by one study.
-fn write_doors<N: RatedNetwork>(heap: Global, text: &mut String, network: &N, head: u32, bytes: &[u8]) -> fmt::Result
+fn write_doors<N: RatedNetwork>(
+    heap: Global,
+    text: &mut String,
+    network: &N,
+    head: u32,
+    bytes: &[u8],
+) -> fmt::Result
     ensures { λ r.
         ⌜
         made
@@ -43,7 +49,13 @@ fn write_doors<N: RatedNetwork>(heap: Global, text: &mut String, network: &N, he
 }
 
 // An accepted deck. A list takes its rows, since the deck was asked the same questions.
-fn write_accepted(heap: Global, text: &mut String, deck: Deck, rows: &[TableRow], bytes: &[u8]) -> fmt::Result
+fn write_accepted(
+    heap: Global,
+    text: &mut String,
+    deck: Deck,
+    rows: &[TableRow],
+    bytes: &[u8],
+) -> fmt::Result
     requires { ⌜ listAsked (deck .nodes) (now rows) ≡ Ok tt ⌝ }
     ensures { λ r.
         ⌜
@@ -61,7 +73,13 @@ fn write_accepted(heap: Global, text: &mut String, deck: Deck, rows: &[TableRow]
 }
 
 // What the reader answered of the deck, with the table that it filled.
-fn write_answer(heap: Global, text: &mut String, answer: Result<Deck, DeckRefusal>, table: &[TableRow], bytes: &[u8]) -> fmt::Result
+fn write_answer(
+    heap: Global,
+    text: &mut String,
+    answer: Result<Deck, DeckRefusal>,
+    table: &[TableRow],
+    bytes: &[u8],
+) -> fmt::Result
     requires { ⌜ Answered (now bytes) answer (now table) ⌝ }
     ensures { λ r. ⌜ made r (λ _. string-bytes (now (text .exit)) ≡ string-bytes (now (text .entry)) ++ sheetText (now (bytes .entry))) ⌝ }
 {

@@ -1,7 +1,7 @@
 ghost use mathlib.Core.Path.{_≡_};
 ghost use lib.ListN.{length};
 ghost use Rattle.engine.specs.declared.call.Call.the-variants.{Aim, Advance};
-ghost use Rattle.engine.specs.Studies.{no-state, state-of, Kept, set-up, set-up-answer, called, aim-answer, progress, advanced-by, advance-answer, show-answer, bounds-answer, line-answer, line-written, standing-answer};
+ghost use Rattle.engine.specs.Studies.{no-state, state-of, Kept, Forgets, set-up, set-up-answer, called, aim-answer, progress, advanced-by, advance-answer, show-answer, bounds-answer, line-answer, line-written, standing-answer};
 use crate::listing::list_sets;
 use crate::progress::Progress;
 use crate::questions::check_budget;
@@ -41,6 +41,7 @@ impl Study {
         ensures answer { λ r. ⌜ r ≡ set-up-answer (net (now (network .entry))) head ⌝ }
         ensures state { λ _. ⌜ state-of (now (self .exit)) ≡ set-up (net (now (network .entry))) head (state-of (now (self .entry))) ⌝ }
         ensures kept { λ r. ⌜ Kept r (now (self .entry)) (now (self .exit)) ⌝ }
+        ensures forgets { λ r. ⌜ Forgets (net (now (network .entry))) head r (state-of (now (self .exit))) ⌝ }
     {
         check_head(network.nodes(), head)?;
         self.head = Some(head);

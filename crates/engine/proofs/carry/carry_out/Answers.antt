@@ -1,9 +1,8 @@
-use mathlib.Core.Path.{_≡_, sym, ap, _∙_}
-use mathlib.Core.List.{_∷_, [], _++_}
+use mathlib.Core.Path.{_≡_}
 use native.Mathlib.Omega.{arith}
 use borrow.Author.Needs.{needs}
+use Rattle.std.specs.Of.Vec.{vec-items}
 use Rattle.std.specs.declared.result.Result.the-variants.{Ok}
-use Rattle.network.specs.Questions.{headAsked}
 use Rattle.engine.specs.Studies.{state-of, set-up-answer}
 use Rattle.engine.proofs.Points.{state-more, answers-more, carried}
 use Rattle.engine.proofs.carry.carry_out.Needs as need
@@ -20,7 +19,8 @@ loop-call-again g c =
     let before = c .loop-call .inv in
     let taken = c .loop-call-test .taken in (
       state-more net ratings scale start calls k (state-of (c .loop-call .study)) (before .0) _ taken _ (c .make-call .ensures .state),
-      c .push-reserved .ensures .items ∙ answers-more net ratings scale start calls k (state-of (c .loop-call .study)) (before .0) _ taken _ _ (before .1) (c .make-call .ensures .answer),
+      answers-more net ratings scale start calls k (state-of (c .loop-call .study)) (before .0) _ taken (vec-items (c .loop-call .answers)) (vec-items (c .push-reserved .last .self)) (c .make-call .result)
+          (c .push-reserved .ensures .items) (before .1) (c .make-call .ensures .answer),
       omega (arith, c .push-reserved .ensures .len, before .2),
       omega (arith, c .push-reserved .ensures .capacity, before .3),
     )

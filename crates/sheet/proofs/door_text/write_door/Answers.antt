@@ -13,6 +13,6 @@ returns-in-Ok g c =
     let none = c .in-None .ensures tt ∙ ap firstFault (c .deref .ensures .value ∙ run .every-answer-is-recorded) in
     made-as _ _ _ _ _
     (ap (λ net. studyText net (rated .ratings) (c .args .door) (state-of (c .carry-out .last .study))) (sym (c .rating .ensures .same))
-     ∙ ap (studyText (rated .plain) (rated .ratings) (c .args .door)) (run .the-study-stands-where-the-calls-lead)
-     ∙ accepted-text (rated .plain) (rated .ratings) billionths (c .args .head) (c .args .door) (run .the-head-is-a-node) none)
+    ∙ ap (studyText (rated .plain) (rated .ratings) (c .args .door)) (run .the-study-stands-where-the-calls-lead)
+    ∙ accepted-text (rated .plain) (rated .ratings) billionths (c .args .head) (c .args .door) (run .the-head-is-a-node) none)
     (c .write-study .ensures)

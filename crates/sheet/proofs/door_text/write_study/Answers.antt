@@ -21,7 +21,7 @@ returns g c =
     let low = lowLine (bounds-answer net ratings billionths s) in
     let fine = fineLine (bounds-answer net ratings nineFigures s) in
     let two = then-more _ start first cuts _ (c .in-Continue-write-standing .ensures tt)
-        (c .in-Continue-write-rows .ensures tt ∙ ap (λ n. string-bytes (c .write-standing .last .text) ++ cutLines net s n) (c .rows .ensures)) in
+    (c .in-Continue-write-rows .ensures tt ∙ ap (λ n. string-bytes (c .write-standing .last .text) ++ cutLines net s n) (c .rows .ensures)) in
     let three = then-more _ start (first ++ cuts) low _ two (c .in-Continue-write-low .ensures tt) in
     made-as _ start (((first ++ cuts) ++ low) ++ fine) _ _ (four first cuts low fine)
     (made-more _ _ start ((first ++ cuts) ++ low) fine _ three (c .write-fine .ensures))

@@ -17,12 +17,12 @@ pub returns-in-Ok : need.returns-in-Ok
 returns-in-Ok c =
     made-as _ _ _ _ _
     (accepted-sheet (c .args .bytes .now) (c .in-Ok .deck) (c .args .table .now) (c .split-at .result .0 .now)
-     (read _ _ _ (subst (λ a. Answered (c .args .bytes .now) a (c .args .table .now)) (c .in-Ok .is) (c .pre))) (c .split-at .ensures .front))
+    (read _ _ _ (subst (λ a. Answered (c .args .bytes .now) a (c .args .table .now)) (c .in-Ok .is) (c .pre))) (c .split-at .ensures .front))
     (c .write-accepted .ensures)
 
 pub returns-in-Err : need.returns-in-Err
 returns-in-Err c =
     made-as _ _ _ _ _
     (refused-sheet (c .args .bytes .now) (c .in-Err .refusal) (c .args .table .now)
-     (subst (λ a. Answered (c .args .bytes .now) a (c .args .table .now)) (c .in-Err .is) (c .pre)))
+    (subst (λ a. Answered (c .args .bytes .now) a (c .args .table .now)) (c .in-Err .is) (c .pre)))
     (c .write-refusal .ensures)
