@@ -2,4 +2,5 @@ pub mod Lines
 pub mod CutTexts
 pub mod Rows
 pub mod Doors
+pub mod Ended
 pub mod Accepted

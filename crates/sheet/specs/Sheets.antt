@@ -13,7 +13,8 @@ use Rattle.refusals.specs.declared.deck_fault.DeckRefusal.{DeckRefusal}
 use Rattle.refusals.specs.declared.study_fault.StudyFault.{StudyFault}
 use Rattle.refusals.specs.Refusals.{studyRefusal}
 use Rattle.network.specs.declared.rating.Rating.{Rating}
-use Rattle.network.specs.Meaning.{Net, listNet, ratingOf}
+use Rattle.network.specs.Meaning.{Net, Legal, listNet, ratingOf}
+use Rattle.search.specs.Search.{status}
 use Rattle.search.specs.declared.status.Status.{Status}
 use Rattle.search.specs.declared.status.Status.the-variants.{Finished, Full, More}
 use Rattle.scale.specs.declared.billionths.Billionth.{Billionth}
@@ -81,6 +82,14 @@ studyText net ratings d s =
 -- what is done for a door: an aim, and two advances that suffice for any search
 abbrev pub doorCalls : ℕ → List Call
 doorCalls d = Aim d ∷ Advance 10000 ∷ Advance 10000 ∷ []
+
+-- after these calls on an accepted door the search is finished or full
+abbrev pub Ended : Net → ℕ → ℕ → Type 0
+Ended net head d =
+    set-up-answer net head ≡ Ok tt → door-asked net head d ≡ Ok tt → status net d (after net head (doorCalls d) .search .rows) ≡ More → ⊥
+
+abbrev pub Two-advances-end : Type 0
+Two-advances-end = (net : Net) → Legal net → (head d : ℕ) → Ended net head d
 
 -- why an aim was refused, if it was
 abbrev pub aimFault : {Num : Type 0} → Answered Num → Option StudyFault

@@ -6,7 +6,7 @@ ghost use Rattle.std.specs.Vec.{made};
 ghost use Rattle.scale.specs.Billionths.{billionths};
 ghost use Rattle.scale.specs.NineFigures.{nineFigures};
 ghost use Rattle.engine.specs.Studies.{state-of, standing-answer, show-answer, bounds-answer};
-ghost use Rattle.sheet.specs.Sheets.{refusedLine, statusWord, standingLine, shownLine, cutLines, lowLine, fineLine, studyText, aimFault, firstFault, doorText};
+ghost use Rattle.sheet.specs.Sheets.{refusedLine, statusWord, standingLine, shownLine, cutLines, lowLine, fineLine, studyText, aimFault, firstFault, doorText, Two-advances-end};
 use crate::cut_text::write_cut;
 use engine::call::Answer;
 use engine::call::Call;
@@ -196,4 +196,11 @@ pub fn write_door<N: RatedNetwork>(
         Err(CarryFault::Study(fault)) => write_refused(text, door, fault),
         Err(CarryFault::Memory) => Err(fmt::Error),
     }
+}
+
+// On every network the calls that are made for a door bring its search to an end: it is finished, or full.
+pub fn two_advances_end() -> bool
+    ensures { λ _. ⌜ Two-advances-end ⌝ }
+{
+    true
 }

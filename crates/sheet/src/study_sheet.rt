@@ -29,6 +29,7 @@ use std::fmt;
 fn write_doors<N: RatedNetwork>(
     heap: Global,
     text: &mut String,
+    study: &mut Study,
     network: &N,
     head: u32,
     bytes: &[u8],
@@ -40,10 +41,9 @@ fn write_doors<N: RatedNetwork>(
         (λ _. string-bytes (now (text .exit)) ≡ string-bytes (now (text .entry)) ++ doorTexts (N·RatedNetwork .rated (now (network .entry)) .plain) (N·RatedNetwork .rated (now (network .entry)) .ratings) head (doorsIn (cards (now (bytes .entry)))))
         ⌝ }
 {
-    let mut study = Study::new();
     let mut doors = Doors::new(bytes);
     while let Some(door) = doors.next_door() {
-        write_door(heap, text, &mut study, network, head, door)?;
+        write_door(heap, text, study, network, head, door)?;
     }
     Ok(())
 }
@@ -52,6 +52,7 @@ fn write_doors<N: RatedNetwork>(
 fn write_accepted(
     heap: Global,
     text: &mut String,
+    study: &mut Study,
     deck: Deck,
     rows: &[TableRow],
     bytes: &[u8],
@@ -69,13 +70,14 @@ fn write_accepted(
         Ok(()) => {}
         Err(_) => unreachable(),
     }
-    write_doors(heap, text, &list, deck.head, bytes)
+    write_doors(heap, text, study, &list, deck.head, bytes)
 }
 
 // What the reader answered of the deck, with the table that it filled.
 fn write_answer(
     heap: Global,
     text: &mut String,
+    study: &mut Study,
     answer: Result<Deck, DeckRefusal>,
     table: &[TableRow],
     bytes: &[u8],
@@ -86,19 +88,27 @@ fn write_answer(
     match answer {
         Ok(deck) => {
             let (rows, _) = table.split_at(deck.branches as usize);
-            write_accepted(heap, text, deck, rows, bytes)
+            write_accepted(heap, text, study, deck, rows, bytes)
         }
         Err(refusal) => write_refusal(text, refusal),
     }
+}
+
+// The sheet of a deck. What the study held before, of this deck or of another, has no influence on it.
+pub fn write_sheet(heap: Global, text: &mut String, study: &mut Study, bytes: &[u8]) -> fmt::Result
+    ensures { λ r. ⌜ made r (λ _. string-bytes (now (text .exit)) ≡ string-bytes (now (text .entry)) ++ sheetText (now (bytes .entry))) ⌝ }
+{
+    let mut table = [TableRow::BLANK; 64];
+    let answer = read_deck(bytes, &mut table);
+    write_answer(heap, text, study, answer, &table, bytes)
 }
 
 // The sheet of a deck, as text; want of memory is the only error.
 pub fn sheet_of(heap: Global, bytes: &[u8]) -> Result<String, fmt::Error>
     ensures { λ r. ⌜ made r (λ text. string-bytes text ≡ sheetText (now (bytes .entry))) ⌝ }
 {
-    let mut table = [TableRow::BLANK; 64];
-    let answer = read_deck(bytes, &mut table);
+    let mut study = Study::new();
     let mut text = String::new(heap);
-    write_answer(heap, &mut text, answer, &table, bytes)?;
+    write_sheet(heap, &mut text, &mut study, bytes)?;
     Ok(text)
 }
