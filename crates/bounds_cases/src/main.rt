@@ -1,5 +1,7 @@
 // Bounds of lists of branch sets, one list to a line of standard input: the file of a deck, OPEN or FINISHED, and the sets
 // as numbers, bit k for branch k.
+#![tactic(auto)]
+
 use anyhow::anyhow;
 use chance::bounds::bounds_of;
 use deck::reader::read_deck;

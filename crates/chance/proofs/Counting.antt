@@ -1,7 +1,7 @@
 -- Inclusion and exclusion up to pairs: of the rows within a set, those less the pairs are at most 1.
 use Rattle.std.proofs.Common.{◌≡◌, ℕ, zero, suc, ◌+◌, ◌*◌, ◌<◌, ◌≤◌, ◌⊎◌, List, [], ◌∷◌, ◌++◌, map, length, get_or, refl, inl, inr, arith}
 use lib.Bits.{bit_or}
-use Rattle.std.specs.List.{AllByRecursion as All}
+use Rattle.std.specs.List.{AllByRecursion}
 use Rattle.chance.specs.Bounds.{united}
 
 abbrev pub total : (ℕ → ℕ) → List ℕ → ℕ
@@ -40,7 +40,7 @@ module _ (f : ℕ → ℕ) (both : (c d : ℕ) → f (bit_or c d) ≡ f c * f d)
       more (suc zero) n p q = omega arith
       more (suc (suc x)) n p q = absurd (omega arith)
 
-  pub counted : (small : (c : ℕ) → f c ≤ 1) (t : ℕ) (before rows : List ℕ) → All (λ c. f c ≤ t) rows
+  pub counted : (small : (c : ℕ) → f c ≤ 1) (t : ℕ) (before rows : List ℕ) → AllByRecursion (λ c. f c ≤ t) rows
       → total f rows ≤ t + total f (united before rows)
   unfolding united
   counted small t before [] h = omega arith

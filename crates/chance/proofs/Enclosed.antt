@@ -1,13 +1,13 @@
 -- The bounds bracket the exact chance.
-use Rattle.std.proofs.Common.{◌≡◌, ℕ, ◌*◌, ◌≤◌, Bool, true, false, cond, T, List, [], ◌∷◌, ◌++◌, map, fold, sym, refl, ap, ◌∙◌, subst, inl, inr, mul-le-mul_right, arith}
-use Rattle.std.specs.List.{AllByRecursion as All}
+use Rattle.std.proofs.Common.{◌≡◌, ℕ, ◌≤◌, Bool, true, false, T, List, [], ◌∷◌, map, sym, refl, ap, ◌∙◌, subst, inl, inr, mul-le-mul_right, arith}
+use Rattle.std.specs.List.{AllByRecursion}
 use Rattle.std.proofs.ByRecursion.{All-weaker, All-map}
 use Rattle.network.specs.Meaning.{RatedNet, LegalRated}
-use Rattle.scale.specs.Fractions.{Fraction, whole, ◌≤ᶠ◌}
+use Rattle.scale.specs.Fractions.{Fraction, ◌≤ᶠ◌}
 use Rattle.scale.specs.Arithmetic.{Arithmetic, Rounded}
 use Rattle.chance.specs.Bounds.{united, prefixes, added_up, row_sum, pair_sum, difference, low, high}
 use Rattle.chance.specs.CutOff.{AbleSet, cut_off_chance}
-use Rattle.chance.specs.Bracket.{Grows, AreCuts, Complete, Brackets}
+use Rattle.chance.specs.Bracket.{Brackets}
 use Rattle.chance.proofs.Risks.{Risk, AbleRisks, ratings_of}
 use Rattle.chance.proofs.OverSets.{units, exact}
 use Rattle.chance.proofs.Masks.{T_true}
@@ -17,14 +17,14 @@ use Rattle.chance.proofs.Rounding.{sums-below, sums-reach, difference_below, rea
 use Rattle.chance.proofs.Narrow.{largest-below}
 use Rattle.chance.proofs.Numbers.{risks, ratings-same, able-to, able-from, exact_same, under_same}
 
-all-prefixes : (P : ℕ → Type 0) (rows : List ℕ) → All P rows → All (All P) (prefixes rows)
+all-prefixes : (P : ℕ → Type 0) (rows : List ℕ) → AllByRecursion P rows → AllByRecursion (AllByRecursion P) (prefixes rows)
 unfolding prefixes
 all-prefixes P [] h = tt
 all-prefixes P (c ∷ rows) h =
-    ((h.0, tt), All-map (All P) (λ p. c ∷ p) (prefixes rows) (All-weaker (All P) (λ p. P c × All P p) (λ p q. (h.0, q)) (prefixes rows) (all-prefixes P rows h.1)))
+    ((h.0, tt), All-map (AllByRecursion P) (λ p. c ∷ p) (prefixes rows) (All-weaker (AllByRecursion P) (λ p. P c × AllByRecursion P p) (λ p q. (h.0, q)) (prefixes rows) (all-prefixes P rows h.1)))
 
 module _ {Num : Type 0} (s : Arithmetic Num) (law : Rounded s) (bs : List Risk) (cut : ℕ → Bool) where
-  able-rows : (rows : List ℕ) → Cutting bs cut rows → All (AbleRisks bs) rows
+  able-rows : (rows : List ℕ) → Cutting bs cut rows → AllByRecursion (AbleRisks bs) rows
   able-rows rows are = All-weaker (λ c. AbleRisks bs c × T (cut c)) (AbleRisks bs) (λ c a. a.0) rows are
 
   difference-holds : Growing bs cut → (rows : List ℕ) → Cutting bs cut rows → Under (s.value (difference s (ratings_of bs) rows)) (exact bs cut) (units bs)
@@ -44,7 +44,7 @@ module _ {Num : Type 0} (s : Arithmetic Num) (law : Rounded s) (bs : List Risk) 
   low-under e t u grows rows are =
       largest-below s law e (map (difference s (ratings_of bs)) (prefixes rows))
       (All-map (λ n. s.value n ≤ᶠ e) (difference s (ratings_of bs)) (prefixes rows)
-      (All-weaker (All Cutter) (λ p. s.value (difference s (ratings_of bs) p) ≤ᶠ e) (λ p a. rw (t, u) (difference-holds grows p a)) (prefixes rows) (all-prefixes Cutter rows are)))
+      (All-weaker (AllByRecursion Cutter) (λ p. s.value (difference s (ratings_of bs) p) ≤ᶠ e) (λ p a. rw (t, u) (difference-holds grows p a)) (prefixes rows) (all-prefixes Cutter rows are)))
     where
       Cutter : ℕ → Type 0
       Cutter c = AbleRisks bs c × T (cut c)

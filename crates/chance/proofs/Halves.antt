@@ -1,5 +1,5 @@
 -- A product over the chosen ratings, taken one branch and half the set at a time.
-use Rattle.std.proofs.Common.{◌≡◌, ℕ, suc, ◌/◌, Bool, true, false, cond, List, [], ◌∷◌, fold, refl, ap, ◌∙◌, ap₂}
+use Rattle.std.proofs.Common.{◌≡◌, ℕ, suc, ◌/◌, Bool, true, false, cond, List, [], ◌∷◌, fold, refl, ◌∙◌, ap₂}
 use Rattle.sets.specs.Masks.{has}
 use Rattle.sets.proofs.Members.{has-suc, has-zero}
 use Rattle.network.specs.declared.rating.Rating.{Rating}

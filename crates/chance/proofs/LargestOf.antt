@@ -1,9 +1,9 @@
 -- The low bound is the difference of the shortest prefix that has the largest.
-use Rattle.std.proofs.Common.{◌≡◌, ℕ, zero, suc, ◌+◌, ◌*◌, ◌<◌, ◌≤◌, Bool, true, false, cond, eqb, List, [], ◌∷◌, ◌++◌, length, take, sym, refl, ap, ◌∙◌, subst, ⊎_elim, add-one, arith, take_all}
+use Rattle.std.proofs.Common.{◌≡◌, ℕ, zero, suc, ◌*◌, ◌<◌, ◌≤◌, Bool, true, false, cond, eqb, List, length, take, sym, refl, ap, ◌∙◌, subst, ⊎_elim, add-one, arith, take_all}
 use Rattle.std.proofs.lemmas.Bool.{cases_lt, cond-false, ne_eqb}
 use Rattle.sets.proofs.Members.{clash}
 use Rattle.network.specs.declared.rating.Rating.{Rating}
-use Rattle.scale.specs.Fractions.{Fraction, ◌≤ᶠ◌}
+use Rattle.scale.specs.Fractions.{◌≤ᶠ◌}
 use Rattle.scale.specs.Arithmetic.{Arithmetic, Rounded}
 use Rattle.scale.specs.FractionOrder.{at-most-trans}
 use Rattle.chance.specs.Bounds.{larger, row_sum, pair_sum, low}

@@ -1,6 +1,6 @@
 -- Sets of branches as masks, one branch at a time: the first branch by the lowest bit, the others by the half.
-use Rattle.std.proofs.Common.{◌≡◌, ℕ, zero, suc, ◌+◌, ◌*◌, ◌/◌, ◌%◌, ◌^◌, ◌<◌, min, max, Bool, true, false, ◌||◌, T, eqb, ◌⊎◌, List, ◌∷◌, sym, refl, ap, ◌∙◌, subst, inl, inr, div-one, arith, eqb→eq}
-use lib.Bits.{bit_and, bit_or, and_step, and_shr, or_step, or_shr}
+use Rattle.std.proofs.Common.{◌≡◌, ℕ, zero, suc, ◌+◌, ◌*◌, ◌/◌, ◌%◌, ◌^◌, ◌<◌, min, max, Bool, true, false, ◌||◌, T, eqb, ◌⊎◌, List, ◌∷◌, sym, refl, ap, ◌∙◌, subst, inl, inr, arith, eqb→eq}
+use lib.Bits.{bit_and, bit_or, and_step, or_step, or_shr}
 use native.Mathlib.Nat.{div-div-eq-div-mul, pow-succ'}
 use Rattle.std.proofs.lemmas.Bool.{and_parts}
 use Rattle.sets.specs.Masks.{has, ◌∈◌}

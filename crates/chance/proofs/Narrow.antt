@@ -1,7 +1,7 @@
 -- The largest difference over the prefixes, and what more rows do to the bounds.
-use Rattle.std.proofs.Common.{◌≡◌, ℕ, ◌*◌, ◌≤◌, Bool, true, false, cond, List, [], ◌∷◌, ◌++◌, map, fold, sym, refl, ap, ◌∙◌, subst, ⊎_elim, append-nil, arith}
+use Rattle.std.proofs.Common.{◌≡◌, ℕ, ◌*◌, Bool, true, false, cond, List, [], ◌∷◌, ◌++◌, map, fold, sym, refl, subst, ⊎_elim, append-nil, arith}
 use mathlib.Core.List.{map-append}
-use Rattle.std.specs.List.{AllByRecursion as All}
+use Rattle.std.specs.List.{AllByRecursion}
 use Rattle.std.proofs.lemmas.Bool.{cases_lt}
 use Rattle.sets.proofs.Members.{clash}
 use Rattle.network.specs.declared.rating.Rating.{Rating}
@@ -22,12 +22,12 @@ module _ {Num : Type 0} (s : Arithmetic Num) (law : Rounded s) where
   larger-below : (e : Fraction) (m n : Num) → Below e m → Below e n → Below e (larger s m n)
   larger-below e m n h k = elim (s.at_most n m) as (λ t. s.value (cond t m n) ≤ᶠ e) [ true ↦ h | false ↦ k ]
 
-  folded-below : (e : Fraction) (ns : List Num) → All (Below e) ns → (n : Num) → Below e n → Below e (fold (larger s) n ns)
+  folded-below : (e : Fraction) (ns : List Num) → AllByRecursion (Below e) ns → (n : Num) → Below e n → Below e (fold (larger s) n ns)
   folded-below e [] h n k = k
   folded-below e (m ∷ ns) h n k = folded-below e ns h.1 (larger s n m) (larger-below e n m k h.0)
 
   -- what is not below any of a list is not below the largest
-  pub largest-below : (e : Fraction) (ns : List Num) → All (Below e) ns → Below e (largest s ns)
+  pub largest-below : (e : Fraction) (ns : List Num) → AllByRecursion (Below e) ns → Below e (largest s ns)
   unfolding largest
   largest-below e [] h = zero-below e
   largest-below e (n ∷ ns) h = folded-below e ns h.1 n h.0

@@ -1,5 +1,5 @@
 -- The exact chance over branch numbers is the one over the list of risks.
-use Rattle.std.proofs.Common.{◌≡◌, ℕ, zero, suc, ◌+◌, ◌-◌, ◌*◌, ◌/◌, ◌^◌, ◌<◌, Bool, true, false, cond, not, ◌&&◌, ◌||◌, T, eqb, List, [], ◌∷◌, length, get_or, sym, refl, ap, ◌∙◌, ap₂, arith}
+use Rattle.std.proofs.Common.{◌≡◌, ℕ, zero, suc, ◌+◌, ◌-◌, ◌*◌, ◌/◌, ◌^◌, ◌<◌, Bool, true, false, cond, not, ◌&&◌, ◌||◌, List, [], ◌∷◌, length, get_or, sym, refl, ap, ◌∙◌, ap₂, arith}
 use mathlib.Core.Path.{fun_ext}
 use Rattle.std.proofs.lemmas.Bool.{eq-eqb}
 use Rattle.sets.specs.Masks.{has}
@@ -8,9 +8,9 @@ use Rattle.network.specs.declared.branch.Branch.{Branch}
 use Rattle.network.specs.declared.branch.Condition.TheVariants.{Failed}
 use Rattle.network.specs.declared.rating.Rating.{Rating}
 use Rattle.network.specs.Meaning.{RatedNet, LegalRated}
-use Rattle.chance.specs.CutOff.{can_fail, able, every, AbleSet, sum_below, product_below, just, denominators, cut_off_chance}
-use Rattle.chance.proofs.Risks.{Risk, AbleAt, AbleRisks, unit, ratings_of}
-use Rattle.chance.proofs.OverSets.{first, units, weight, able_set, over_sets, exact}
+use Rattle.chance.specs.CutOff.{can_fail, every, AbleSet, sum_below, product_below, denominators, cut_off_chance}
+use Rattle.chance.proofs.Risks.{Risk, AbleAt, AbleRisks, ratings_of}
+use Rattle.chance.proofs.OverSets.{units, weight, able_set, exact}
 use Rattle.chance.proofs.Masks.{T_true}
 use Rattle.chance.proofs.Plain.{each-set-once}
 

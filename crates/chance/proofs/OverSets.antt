@@ -1,5 +1,5 @@
 -- Sums over the sets of able branches, one branch at a time.
-use Rattle.std.proofs.Common.{◌≡◌, ℕ, zero, suc, ◌+◌, ◌-◌, ◌*◌, ◌/◌, ◌%◌, ◌^◌, Bool, cond, not, ◌&&◌, ◌||◌, eqb, List, [], ◌∷◌, length}
+use Rattle.std.proofs.Common.{ℕ, ◌+◌, ◌-◌, ◌*◌, ◌/◌, ◌%◌, Bool, cond, not, ◌&&◌, ◌||◌, eqb, List, [], ◌∷◌}
 use Rattle.network.specs.declared.rating.Rating.{Rating}
 use Rattle.chance.proofs.Risks.{Risk, unit}
 

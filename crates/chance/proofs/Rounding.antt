@@ -1,9 +1,9 @@
 -- Products and sums that are rounded one way stay on that side of the exact ones.
-use Rattle.std.proofs.Common.{ℕ, ◌+◌, ◌*◌, ◌/◌, ◌<◌, ◌≤◌, Bool, true, false, cond, T, ◌⊎◌, List, [], ◌∷◌, map, fold, inl, inr, add-zero, add_assoc, mul-le-mul_right, mul-le-mul, arith}
+use Rattle.std.proofs.Common.{ℕ, ◌+◌, ◌*◌, ◌/◌, ◌≤◌, Bool, true, false, cond, T, ◌⊎◌, List, [], ◌∷◌, map, fold, inl, inr, add-zero, add_assoc, mul-le-mul_right, mul-le-mul, arith}
 use native.Mathlib.Decide.{dec_le}
-use Rattle.std.specs.List.{AllByRecursion as All}
+use Rattle.std.specs.List.{AllByRecursion}
 use Rattle.network.specs.declared.rating.Rating.{Rating}
-use Rattle.scale.specs.Fractions.{Fraction, whole, ◌≤ᶠ◌, ◌=ᶠ◌, ◌+ᶠ◌, ◌-ᶠ◌, ◌×ᶠ◌}
+use Rattle.scale.specs.Fractions.{Fraction, whole, ◌≤ᶠ◌, ◌+ᶠ◌, ◌-ᶠ◌, ◌×ᶠ◌}
 use Rattle.scale.specs.Arithmetic.{Arithmetic, Rounded, chance}
 use Rattle.chance.specs.Bounds.{product_down, product_up}
 use Rattle.chance.proofs.Risks.{Risk, unit, ratings_of, AbleRisks}
@@ -73,7 +73,7 @@ module _ {Num : Type 0} (s : Arithmetic Num) (law : Rounded s) where
     row-above : (c : ℕ) → AbleRisks bs c → Over (around bs c) (units bs) (s.value (product_up s (ratings_of bs) c))
     row-above c a = let k = product-above bs c a s.one 1 1 (omega (arith, law.one_is_1)) in rw (up-halved s (ratings_of bs) c) (omega arith)
 
-    pub sums-below : (rows : List ℕ) → All (AbleRisks bs) rows → (n : Num) (x : ℕ) → Under (s.value n) x (units bs)
+    pub sums-below : (rows : List ℕ) → AllByRecursion (AbleRisks bs) rows → (n : Num) (x : ℕ) → Under (s.value n) x (units bs)
         → Under (s.value (fold s.sum_down n (map (product_down s (ratings_of bs)) rows))) (x + total (around bs) rows) (units bs)
     sums-below [] a n x h = omega arith
     sums-below (c ∷ rows) a n x h =
@@ -101,7 +101,7 @@ module _ {Num : Type 0} (s : Arithmetic Num) (law : Rounded s) where
         sum : Fraction
         sum = s.value n +ᶠ s.value p
 
-    pub sums-reach : (sets : List ℕ) → All (AbleRisks bs) sets → (n : Num) (x : ℕ) → Reaches n x
+    pub sums-reach : (sets : List ℕ) → AllByRecursion (AbleRisks bs) sets → (n : Num) (x : ℕ) → Reaches n x
         → Reaches (fold s.sum_up n (map (product_up s (ratings_of bs)) sets)) (x + total (around bs) sets)
     sums-reach [] a n x h = rw add-zero h
     sums-reach (c ∷ sets) a n x h =

@@ -1,5 +1,5 @@
 -- The bounds one row at a time.
-use Rattle.std.proofs.Common.{◌≡◌, ℕ, zero, suc, ◌+◌, ◌<◌, ◌≤◌, Bool, true, false, cond, eqb, List, [], ◌∷◌, ◌++◌, map, length, get_or, take, fold, sym, refl, ap, ◌∙◌, ap₂, append_assoc, append-nil, map-id, arith, length-take, take_all}
+use Rattle.std.proofs.Common.{◌≡◌, ℕ, suc, ◌+◌, ◌<◌, ◌≤◌, Bool, cond, eqb, List, [], ◌∷◌, ◌++◌, map, length, get_or, take, fold, sym, refl, ap, ◌∙◌, ap₂, append_assoc, append-nil, map-id, arith, length-take, take_all}
 use mathlib.Core.List.{map-append, map-map}
 use lib.Bits.{bit_or}
 use Rattle.std.proofs.lemmas.List.{take_more}

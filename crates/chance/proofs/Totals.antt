@@ -1,7 +1,7 @@
 -- The products of the rows, added up, against the sum over all cuts.
 use Rattle.std.proofs.Common.{◌≡◌, ℕ, zero, suc, ◌+◌, ◌*◌, ◌<◌, ◌≤◌, Bool, true, false, cond, T, List, [], ◌∷◌, ◌++◌, map, length, get_or, ◌∙◌, mul-le-mul_right, add-mul, arith}
 use lib.Bits.{bit_or}
-use Rattle.std.specs.List.{AllByRecursion as All}
+use Rattle.std.specs.List.{AllByRecursion}
 use Rattle.std.proofs.ByRecursion.{All-weaker, All-push, All-append, All-map}
 use Rattle.chance.proofs.Risks.{Risk, AbleRisks}
 use Rattle.chance.proofs.OverSets.{over_sets, units, weight, exact}
@@ -11,7 +11,7 @@ use Rattle.chance.proofs.Masks.{able-or}
 use Rattle.chance.proofs.Weights.{sets-le, sets-add, sets_same, sets-none, inside, around, weight-sum, weight-all, inside-le, inside-or, inside-within, within-inside}
 use Rattle.chance.proofs.Counting.{total, at-le-total, counted}
 
-pub all-united : (bs : List Risk) (before rows : List ℕ) → All (AbleRisks bs) before → All (AbleRisks bs) rows → All (AbleRisks bs) (united before rows)
+pub all-united : (bs : List Risk) (before rows : List ℕ) → AllByRecursion (AbleRisks bs) before → AllByRecursion (AbleRisks bs) rows → AllByRecursion (AbleRisks bs) (united before rows)
 unfolding united
 all-united bs before [] p q = tt
 all-united bs before (c ∷ rows) p q =
@@ -20,7 +20,7 @@ all-united bs before (c ∷ rows) p q =
     (all-united bs (before ++ c ∷ []) rows (All-push (AbleRisks bs) before c p q.0) q.1)
 
 -- the products of a list of sets, set by set or over all sets
-pub total-around : (bs : List Risk) → (rows : List ℕ) → All (AbleRisks bs) rows
+pub total-around : (bs : List Risk) → (rows : List ℕ) → AllByRecursion (AbleRisks bs) rows
     → over_sets bs (λ z. total (λ c. inside bs c z) rows * weight bs z) ≡ total (around bs) rows
 total-around bs [] a = sets_same bs (λ z. omega arith) ∙ sets-none bs
 total-around bs (c ∷ rows) a =
@@ -34,7 +34,7 @@ module _ (bs : List Risk) (cut : ℕ → Bool) where
   Growing = (c z : ℕ) → AbleRisks bs c → AbleRisks bs z → Within c z → T (cut c) → T (cut z)
 
   abbrev pub Cutting : List ℕ → Type 0
-  Cutting rows = All (λ c. AbleRisks bs c × T (cut c)) rows
+  Cutting rows = AllByRecursion (λ c. AbleRisks bs c × T (cut c)) rows
 
   abbrev pub Covering : List ℕ → Type 0
   Covering rows = (z : ℕ) → AbleRisks bs z → T (cut z) → (k : ℕ) × (k < length rows) × Within (get_or rows k 0) z
@@ -80,7 +80,7 @@ module _ (bs : List Risk) (cut : ℕ → Bool) where
           (λ c h. bounded (inside bs c z) (cut z) (inside-le bs c z) (λ o. grows c z h.0 a (inside-within bs c z h.0 o) h.1)) rows are))
 
   -- where the rows are complete, the cuts are at most the rows
-  pub high-total : (rows : List ℕ) → All (AbleRisks bs) rows → Covering bs cut rows → exact bs cut ≤ total (around bs) rows
+  pub high-total : (rows : List ℕ) → AllByRecursion (AbleRisks bs) rows → Covering bs cut rows → exact bs cut ≤ total (around bs) rows
   high-total rows able complete =
       rw (← total-around bs rows able) (sets-le bs _ _ (λ z a. reached (cut z) (weight bs z) _ (met z a)))
     where

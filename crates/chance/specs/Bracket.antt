@@ -1,6 +1,6 @@
 -- What the bounds are worth: they bracket the exact chance, and more rows only narrow them.
 use Rattle.std.specs.Prelude.{◌≡◌, ℕ, ◌<◌, Bool, true, List, [], ◌++◌, length, slice_index}
-use Rattle.std.specs.List.{AllByRecursion as All}
+use Rattle.std.specs.List.{AllByRecursion}
 use Rattle.network.specs.declared.rating.Rating.{Rating}
 use Rattle.network.specs.Meaning.{RatedNet}
 use Rattle.scale.specs.Fractions.{◌≤ᶠ◌}
@@ -14,7 +14,7 @@ module _ (net : RatedNet) (cut : ℕ → Bool) where
   Grows = (Y Z : ℕ) → AbleSet net Y → AbleSet net Z → Within Y Z → cut Y ≡ true → cut Z ≡ true
 
   abbrev pub AreCuts : List ℕ → Type 0
-  AreCuts rows = All (λ Z. AbleSet net Z × (cut Z ≡ true)) rows
+  AreCuts rows = AllByRecursion (λ Z. AbleSet net Z × (cut Z ≡ true)) rows
 
   -- within every cut lies a row
   abbrev pub Complete : List ℕ → Type 0

@@ -1,5 +1,5 @@
 -- What the low bound is among the differences of all prefixes.
-use Rattle.std.specs.Prelude.{◌≡◌, ℕ, suc, ◌<◌, List, [], length, take}
+use Rattle.std.specs.Prelude.{◌≡◌, ℕ, suc, ◌<◌, List, length, take}
 use Rattle.network.specs.declared.rating.Rating.{Rating}
 use Rattle.scale.specs.Fractions.{◌≤ᶠ◌}
 use Rattle.scale.specs.Arithmetic.{Arithmetic}

@@ -1,4 +1,6 @@
 // The line that tells one cut, written into a buffer.
+#![tactic(auto)]
+
 ghost use Rattle.std.specs.Prelude.{◌≡◌, ℕ, ◌+◌, ◌*◌, ◌<◌, ◌≤◌, [], ◌∷◌, length};
 ghost use Rattle.cut_line.specs.Cuts.{written, members_below, spaced, cut_written, cut_length};
 

@@ -1,5 +1,5 @@
 -- An accepted deck's branches are a network: a list takes them.
-use Rattle.std.proofs.Common.{◌≡◌, ℕ, zero, suc, ◌+◌, ◌<◌, ◌≤◌, Bool, true, false, cond, eqb, ltb, leb, List, [], ◌∷◌, ◌++◌, length, Some, None, Ok, Err, Option, Result, sym, refl, ap, ◌∙◌, subst, arith}
+use Rattle.std.proofs.Common.{◌≡◌, ℕ, zero, suc, ◌+◌, ◌≤◌, Bool, true, false, cond, eqb, leb, List, [], ◌∷◌, ◌++◌, length, Some, None, Ok, Err, Result, sym, refl, ap, ◌∙◌, subst, arith}
 use Rattle.std.proofs.lemmas.List.{length_push}
 use Rattle.std.proofs.lemmas.Bool.{and_parts, and_from, leb-true, le-leb, eqb-true, cond-true, false≢true}
 use Rattle.refusals.specs.declared.network_fault.NetworkFault.{NetworkFault}
@@ -11,7 +11,7 @@ use Rattle.network.specs.declared.branch.TableRow.{TableRow}
 use Rattle.network.specs.declared.branch.Condition.{Condition}
 use Rattle.network.specs.Questions.{Answer, asked, and_then, nodes_asked, count_asked, row_asked, rows_asked, head_asked, list_asked}
 use Rattle.deck.specs.Cards.{Keyword, nodes, branch, failed, working, door, Reading, unknown, card, cards}
-use Rattle.deck.specs.Decks.{Entry, nodes_are, branch_is, mark_is, door_is, entry_of, nodes_in, head_in, branches_in, marked, last_turn, follows, turn_of, to_study, to_deck, plan_asked, entry_asked, entered, counted, card_after, ended, refused, read_cards, read_bytes, read_if, bytes_asked}
+use Rattle.deck.specs.Decks.{Entry, nodes_are, branch_is, mark_is, door_is, entry_of, nodes_in, branches_in, marked, last_turn, follows, turn_of, to_study, to_deck, entry_asked, card_after, refused, read_cards, read_bytes, read_if, bytes_asked}
 use Rattle.deck.proofs.Drafts.{length_marked}
 use Rattle.deck.proofs.Steps.{from-turn, from-entered}
 

@@ -2,7 +2,7 @@
 use Rattle.std.proofs.Common.{◌≡◌, ℕ, ◌+◌, true, false, eqb, List, [], ◌∷◌, ◌++◌, map, length, take, drop, Some, None, Ok, Err, Option, Result, sym, refl, ap, ◌∙◌, append_assoc, append-nil, arith}
 use Rattle.refusals.specs.declared.deck_fault.DeckFault.{DeckFault}
 use Rattle.network.specs.Questions.{Answer}
-use Rattle.deck.specs.Words.{words, lines}
+use Rattle.deck.specs.Words.{words}
 use Rattle.deck.specs.Cards.{Keyword, nodes, branch, failed, working, door, Reading, unknown, card, card_on, cards}
 use Rattle.deck.specs.Decks.{Entry, nodes_are, branch_is, mark_is, door_is, entry_of, card_after, counted, entry_asked, read_cards, read_bytes, read_if, bytes_asked}
 use Rattle.deck.specs.Doorways.{door_on, before, doors_in, doors_of}

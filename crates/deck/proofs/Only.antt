@@ -1,7 +1,7 @@
 -- Only decks of sound plans are accepted.
-use Rattle.std.proofs.Common.{◌≡◌, ℕ, zero, suc, ◌+◌, ◌-◌, ◌^◌, ◌<◌, ◌≤◌, Bool, true, false, cond, ◌&&◌, eqb, ltb, leb, List, [], ◌∷◌, ◌++◌, map, length, get_or, Some, None, Ok, Err, Option, Result, sym, refl, ap, ◌∙◌, subst, arith}
+use Rattle.std.proofs.Common.{◌≡◌, ℕ, zero, suc, ◌+◌, ◌^◌, ◌<◌, ◌≤◌, Bool, true, false, cond, ◌&&◌, eqb, ltb, leb, List, [], ◌∷◌, ◌++◌, map, length, get_or, Some, None, Ok, Err, Option, Result, sym, refl, ap, ◌∙◌, subst, arith}
 use Rattle.std.specs.Str.Parse.{digits_value}
-use Rattle.std.specs.List.{AllByRecursion as All}
+use Rattle.std.specs.List.{AllByRecursion}
 use Rattle.std.specs.Str.{all_ascii_digits}
 use Rattle.std.proofs.lemmas.List.{length_push}
 use Rattle.std.proofs.lemmas.Bool.{ltb-true, leb-true, and_parts, true≢false, false≢true}
@@ -26,7 +26,7 @@ use Rattle.deck.proofs.Plans.{plan-writable, shown-parts}
 -- The numbers of a card fit 32 bits, and are as many as its word wants.
 
 abbrev Small : List ℕ → Type 0
-Small ns = All (λ n. n < 2 ^ 32) ns
+Small ns = AllByRecursion (λ n. n < 2 ^ 32) ns
 
 from-number : (b : Bool) (v n : ℕ) → cond b (Some v) None ≡ Some n → (b ≡ true) × (v ≡ n)
 from-number true v n h = (refl, cc)
@@ -77,7 +77,7 @@ proper-card : (ws : List (List ℕ)) → Proper (card_on ws)
 proper-card [] = tt
 proper-card (w ∷ ws) = proper-by (keyword_for w) ws
 
-all-proper : (ls : List (List ℕ)) → All Proper (map (λ l. card_on (words l)) ls)
+all-proper : (ls : List (List ℕ)) → AllByRecursion Proper (map (λ l. card_on (words l)) ls)
 all-proper [] = tt
 all-proper (l ∷ ls) = (proper-card (words l), all-proper ls)
 
@@ -180,15 +180,15 @@ door-left ns cs w left =
 not-next : (s t : ℕ) (es : List Entry) → last_turn es ≡ s → follows s t ≡ false → follows (last_turn es) t ≡ true → ⊥
 not-next s t es last never turn = true≢false (sym turn ∙ ap (λ x. follows x t) last ∙ never)
 
-doors-case : (cs : List Reading) → ((es fs : List Entry) → last_turn es ≡ 4 → All Proper cs → read_cards es cs ≡ Ok fs → DoorsLeft cs) →
-    (es fs : List Entry) → last_turn es ≡ 4 → All Proper cs → (k : Keyword) (ns : List ℕ) → Writable (k, ns) → follows (last_turn es) (turn_of k) ≡ true → read_cards (entry_of k ns ∷ es) cs ≡ Ok fs → DoorsLeft (card k (Some ns) ∷ cs)
+doors-case : (cs : List Reading) → ((es fs : List Entry) → last_turn es ≡ 4 → AllByRecursion Proper cs → read_cards es cs ≡ Ok fs → DoorsLeft cs) →
+    (es fs : List Entry) → last_turn es ≡ 4 → AllByRecursion Proper cs → (k : Keyword) (ns : List ℕ) → Writable (k, ns) → follows (last_turn es) (turn_of k) ≡ true → read_cards (entry_of k ns ∷ es) cs ≡ Ok fs → DoorsLeft (card k (Some ns) ∷ cs)
 doors-case cs rest es fs last proper nodes ns w turn h = absurd (not-next 4 1 es last refl turn)
 doors-case cs rest es fs last proper branch ns w turn h = absurd (not-next 4 2 es last refl turn)
 doors-case cs rest es fs last proper failed ns w turn h = absurd (not-next 4 3 es last refl turn)
 doors-case cs rest es fs last proper working ns w turn h = absurd (not-next 4 3 es last refl turn)
 doors-case cs rest es fs last proper door ns w turn h = door-left ns cs w (rest (door_is (get_or ns 0 0) ∷ es) fs refl proper h)
 
-doors-only : (cs : List Reading) (es fs : List Entry) → last_turn es ≡ 4 → All Proper cs → read_cards es cs ≡ Ok fs → DoorsLeft cs
+doors-only : (cs : List Reading) (es fs : List Entry) → last_turn es ≡ 4 → AllByRecursion Proper cs → read_cards es cs ≡ Ok fs → DoorsLeft cs
 doors-only [] es fs last proper h = record { doors = []; fit = tt; is = refl }
 doors-only (c ∷ cs) es fs last proper h =
     let a = accepted es c cs fs h in
@@ -199,7 +199,7 @@ doors-only (c ∷ cs) es fs last proper h =
 record MarksLeft (b : ℕ) (cs : List Reading) : Type 0 where
   marks : List (ℕ × Condition)
   doors : List ℕ
-  sound : All (SoundMark b) marks
+  sound : AllByRecursion (SoundMark b) marks
   some : 1 ≤ length doors
   fit : Small doors
   is : cs ≡ map shown (map mark_card marks) ++ map shown (map door_card doors)
@@ -232,10 +232,10 @@ working-marks : Working ≡ Able → ⊥
 working-marks e = let z : ◌≡◌ {A = ℕ} 0 1 = cc in omega arith
 
 MarksRead : List Reading → Type 0
-MarksRead cs = (es fs : List Entry) (b : ℕ) → last_turn es ≡ 3 → length (branches_in es) ≡ b → All Proper cs → read_cards es cs ≡ Ok fs → MarksLeft b cs
+MarksRead cs = (es fs : List Entry) (b : ℕ) → last_turn es ≡ 3 → length (branches_in es) ≡ b → AllByRecursion Proper cs → read_cards es cs ≡ Ok fs → MarksLeft b cs
 
 -- a mark or a door after branches or marks
-mark-case : (cs : List Reading) → MarksRead cs → (es fs : List Entry) (b : ℕ) (s : ℕ) → last_turn es ≡ s → follows s 1 ≡ false → length (branches_in es) ≡ b → All Proper cs →
+mark-case : (cs : List Reading) → MarksRead cs → (es fs : List Entry) (b : ℕ) (s : ℕ) → last_turn es ≡ s → follows s 1 ≡ false → length (branches_in es) ≡ b → AllByRecursion Proper cs →
     (k : Keyword) (ns : List ℕ) → Writable (k, ns) → follows (last_turn es) (turn_of k) ≡ true → entry_asked es (entry_of k ns) ≡ Ok tt → read_cards (entry_of k ns ∷ es) cs ≡ Ok fs → (k ≡ branch → ⊥) → MarksLeft b (card k (Some ns) ∷ cs)
 unfolding MarksRead
 mark-case cs rest es fs b s last never long proper nodes ns w turn asks h other = absurd (not-next s 1 es last never turn)
@@ -267,7 +267,7 @@ marks-only (c ∷ cs) es fs b last long proper h =
 record RowsLeft (n b : ℕ) (cs : List Reading) : Type 0 where
   rows : List TableRow
   rest : List Reading
-  sound : All (SoundRow n) rows
+  sound : AllByRecursion (SoundRow n) rows
   room : b + length rows ≤ 64
   left : MarksLeft (b + length rows) rest
   is : cs ≡ map shown (map branch_card rows) ++ rest
@@ -300,9 +300,9 @@ record Rows (es : List Entry) (n b : ℕ) : Type 0 where
   long : length (branches_in es) ≡ b
 
 RowsRead : List Reading → Type 0
-RowsRead cs = (es fs : List Entry) (n b : ℕ) → last_turn es ≡ 2 → Rows es n b → b ≤ 64 → All Proper cs → read_cards es cs ≡ Ok fs → RowsLeft n b cs
+RowsRead cs = (es fs : List Entry) (n b : ℕ) → last_turn es ≡ 2 → Rows es n b → b ≤ 64 → AllByRecursion Proper cs → read_cards es cs ≡ Ok fs → RowsLeft n b cs
 
-branch-case : (cs : List Reading) → RowsRead cs → (es fs : List Entry) (n b : ℕ) → Rows es n b → All Proper cs →
+branch-case : (cs : List Reading) → RowsRead cs → (es fs : List Entry) (n b : ℕ) → Rows es n b → AllByRecursion Proper cs →
     (ns : List ℕ) → Writable (branch, ns) → entry_asked es (branch_is (row_of ns)) ≡ Ok tt → read_cards (branch_is (row_of ns) ∷ es) cs ≡ Ok fs → SomeRows n b (card branch (Some ns) ∷ cs)
 unfolding RowsRead
 branch-case cs rest es fs n b r proper ns w asks h =
@@ -315,7 +315,7 @@ branch-case cs rest es fs n b r proper ns w asks h =
     (rest (branch_is (row_of ns) ∷ es) fs n (b + 1) refl (record { nodes = r.nodes; long = length_push (branches_in es) (row_of ns) ∙ ap (λ m. m + 1) r.long }) (omega arith) proper h)
 
 -- a card after a branch
-row-case : (cs : List Reading) → RowsRead cs → (es fs : List Entry) (n b : ℕ) → last_turn es ≡ 2 → Rows es n b → b ≤ 64 → All Proper cs →
+row-case : (cs : List Reading) → RowsRead cs → (es fs : List Entry) (n b : ℕ) → last_turn es ≡ 2 → Rows es n b → b ≤ 64 → AllByRecursion Proper cs →
     (k : Keyword) (ns : List ℕ) → Writable (k, ns) → follows (last_turn es) (turn_of k) ≡ true → entry_asked es (entry_of k ns) ≡ Ok tt → read_cards (entry_of k ns ∷ es) cs ≡ Ok fs → RowsLeft n b (card k (Some ns) ∷ cs)
 row-case cs rest es fs n b last r room proper nodes ns w turn asks h = absurd (not-next 2 1 es last refl turn)
 row-case cs rest es fs n b last r room proper branch ns w turn asks h = (branch-case cs rest es fs n b r proper ns w asks h).all
@@ -338,7 +338,7 @@ record Whole (cs : List Reading) : Type 0 where
   is : cs ≡ map shown (plan_cards plan)
 
 -- the card after NODES
-second-case : (cs : List Reading) (fs : List Entry) (n h : ℕ) → All Proper cs →
+second-case : (cs : List Reading) (fs : List Entry) (n h : ℕ) → AllByRecursion Proper cs →
     (k : Keyword) (ns : List ℕ) → Writable (k, ns) → follows 1 (turn_of k) ≡ true → entry_asked (nodes_are n h ∷ []) (entry_of k ns) ≡ Ok tt → read_cards (entry_of k ns ∷ nodes_are n h ∷ []) cs ≡ Ok fs → SomeRows n 0 (card k (Some ns) ∷ cs)
 second-case cs fs n h proper nodes ns w turn asks g = absurd (false≢true turn)
 second-case cs fs n h proper branch ns w turn asks g = branch-case cs (rows-only cs) (nodes_are n h ∷ []) fs n 0 (record { nodes = refl; long = refl }) proper ns w asks g
@@ -346,7 +346,7 @@ second-case cs fs n h proper failed ns w turn asks g = absurd (false≢true turn
 second-case cs fs n h proper working ns w turn asks g = absurd (false≢true turn)
 second-case cs fs n h proper door ns w turn asks g = absurd (false≢true turn)
 
-after-nodes : (cs : List Reading) (fs : List Entry) (n h : ℕ) → All Proper cs → read_cards (nodes_are n h ∷ []) cs ≡ Ok fs → SomeRows n 0 cs
+after-nodes : (cs : List Reading) (fs : List Entry) (n h : ℕ) → AllByRecursion Proper cs → read_cards (nodes_are n h ∷ []) cs ≡ Ok fs → SomeRows n 0 cs
 after-nodes [] fs n h proper g = absurd (not-ended (nodes_are n h ∷ []) fs 1 refl refl g)
 after-nodes (c ∷ cs) fs n h proper g =
     let a = accepted (nodes_are n h ∷ []) c cs fs g in
@@ -369,14 +369,14 @@ whole cs n h asks rows =
         some_branch = rows.some;
         at_most_64_branches = omega (arith, all.room);
         each_branch_is_sound = all.sound;
-        each_mark_is_sound = subst (λ b. All (SoundMark b) marks.marks) same marks.sound;
+        each_mark_is_sound = subst (λ b. AllByRecursion (SoundMark b) marks.marks) same marks.sound;
         some_door = marks.some;
         each_door_fits_32_bits = marks.fit;
       };
       is = ap (λ rs. shown (nodes_card n h) ∷ rs) (all.is ∙ ap (λ rs. map shown (map branch_card all.rows) ++ rs) marks.is) ∙ sym (shown-parts plan);
     }
 
-first-case : (cs : List Reading) (fs : List Entry) → All Proper cs →
+first-case : (cs : List Reading) (fs : List Entry) → AllByRecursion Proper cs →
     (k : Keyword) (ns : List ℕ) → Writable (k, ns) → follows 0 (turn_of k) ≡ true → entry_asked [] (entry_of k ns) ≡ Ok tt → read_cards (entry_of k ns ∷ []) cs ≡ Ok fs → Whole (card k (Some ns) ∷ cs)
 first-case cs fs proper nodes ns w turn asks g =
     let e = two-of ns w.count in
@@ -386,13 +386,13 @@ first-case cs fs proper failed ns w turn asks g = absurd (false≢true turn)
 first-case cs fs proper working ns w turn asks g = absurd (false≢true turn)
 first-case cs fs proper door ns w turn asks g = absurd (false≢true turn)
 
-whole-deck : (cs : List Reading) (fs : List Entry) → All Proper cs → read_cards [] cs ≡ Ok fs → Whole cs
+whole-deck : (cs : List Reading) (fs : List Entry) → AllByRecursion Proper cs → read_cards [] cs ≡ Ok fs → Whole cs
 whole-deck [] fs proper g = absurd (not-ended [] fs 0 refl refl g)
 whole-deck (c ∷ cs) fs proper g =
     let a = accepted [] c cs fs g in
     subst (λ x. Whole (x ∷ cs)) (sym a.is) (first-case cs fs proper.1 a.k a.ns (subst Proper a.is proper.0) a.turn a.asks a.next)
 
-read_whole : (r : Answer DeckFault) (cs : List Reading) (fs : List Entry) → All Proper cs → read_if r cs ≡ Ok fs → Whole cs
+read_whole : (r : Answer DeckFault) (cs : List Reading) (fs : List Entry) → AllByRecursion Proper cs → read_if r cs ≡ Ok fs → Whole cs
 read_whole (Ok u) cs fs proper g = whole-deck cs fs proper g
 read_whole (Err f) cs fs proper g = let z : ◌≡◌ {A = ℕ} 0 1 = cc in absurd (omega arith)
 

@@ -1,7 +1,7 @@
 -- The deck of a sound plan is read back.
-use Rattle.std.proofs.Common.{◌≡◌, ℕ, ◌+◌, ◌-◌, ◌^◌, ◌<◌, ◌≤◌, true, List, [], ◌∷◌, ◌++◌, map, length, Ok, sym, refl, ap, ◌∙◌, append_assoc, append-nil, arith}
+use Rattle.std.proofs.Common.{◌≡◌, ℕ, ◌+◌, ◌^◌, ◌<◌, ◌≤◌, true, List, [], ◌∷◌, ◌++◌, map, length, Ok, sym, refl, ap, ◌∙◌, append_assoc, append-nil, arith}
 use mathlib.Core.List.{map-append}
-use Rattle.std.specs.List.{AllByRecursion as All}
+use Rattle.std.specs.List.{AllByRecursion}
 use Rattle.std.proofs.ByRecursion.{All-append, All-map, All-weaker}
 use Rattle.std.proofs.lemmas.List.{length_push}
 use Rattle.std.proofs.lemmas.Bool.{lt-ltb, le-ltb, le-leb, eq-eqb, ne_eqb, and_from}
@@ -10,7 +10,7 @@ use Rattle.network.specs.Questions.{Answer, and_then, count_asked, row_asked}
 use Rattle.network.specs.declared.branch.TableRow.{TableRow}
 use Rattle.network.specs.declared.branch.Condition.{Condition}
 use Rattle.network.specs.declared.branch.Condition.TheVariants.{Able, Failed, Working}
-use Rattle.deck.specs.Cards.{nodes, branch, failed, working, door, numbers_for, Reading, card, cards}
+use Rattle.deck.specs.Cards.{nodes, branch, failed, working, door, numbers_for, Reading}
 use Rattle.deck.specs.Decks.{Entry, nodes_are, branch_is, mark_is, door_is, row_of, nodes_in, head_in, with_condition, marked, branches_in, first_door, last_turn, follows, to_study, to_deck, plan_asked, card_after, read_cards, deck_of}
 use Rattle.deck.specs.Laws.{Plan, SoundRow, SoundMark, Sound, nodes_card, branch_card, mark_word, mark_card, door_card, plan_cards, applied, plan_deck}
 use Rattle.deck.proofs.Drafts.{length_marked}
@@ -83,7 +83,7 @@ branch-more es n h rows count row t = record {
   shut = t.shut;
 }
 
-rows-read : (more : List TableRow) (rest : List Reading) (es : List Entry) (n h : ℕ) (rows : List TableRow) (count : ℕ) → Taken es 2 n h rows count → 2 ≤ last_turn es → All (SoundRow n) more → length rows + length more ≤ 64 →
+rows-read : (more : List TableRow) (rest : List Reading) (es : List Entry) (n h : ℕ) (rows : List TableRow) (count : ℕ) → Taken es 2 n h rows count → 2 ≤ last_turn es → AllByRecursion (SoundRow n) more → length rows + length more ≤ 64 →
     Reached es (map shown (map branch_card more)) rest 2 n h (rows ++ more) (count + length more)
 rows-read [] rest es n h rows count t low s room = record {
   fs = es;
@@ -125,7 +125,7 @@ mark-more es n h rows count k c t = record {
   shut = t.shut;
 }
 
-marks-read : (more : List (ℕ × Condition)) (rest : List Reading) (es : List Entry) (n h b : ℕ) (rows : List TableRow) (count : ℕ) → Taken es 3 n h rows count → 2 ≤ last_turn es → length rows ≡ b → All (SoundMark b) more →
+marks-read : (more : List (ℕ × Condition)) (rest : List Reading) (es : List Entry) (n h b : ℕ) (rows : List TableRow) (count : ℕ) → Taken es 3 n h rows count → 2 ≤ last_turn es → length rows ≡ b → AllByRecursion (SoundMark b) more →
     Reached es (map shown (map mark_card more)) rest 3 n h (applied more rows) (count + length more)
 marks-read [] rest es n h b rows count t low long s = record {
   fs = es;
@@ -207,7 +207,7 @@ pub record Back (plan : Plan) : Type 0 where
   pub deck : deck_of fs ≡ plan_deck plan
   pub rows : branches_in fs ≡ applied plan.marks plan.rows
 
-first_row : (rows : List TableRow) (rest : List Reading) (n h : ℕ) → All (SoundRow n) rows → 1 ≤ length rows → length rows ≤ 64 →
+first_row : (rows : List TableRow) (rest : List Reading) (n h : ℕ) → AllByRecursion (SoundRow n) rows → 1 ≤ length rows → length rows ≤ 64 →
     Reached (nodes_are n h ∷ []) (map shown (map branch_card rows)) rest 2 n h rows (1 + length rows)
 first_row [] rest n h s some room = absurd (omega arith)
 first_row (row ∷ more) rest n h s some room =
@@ -275,7 +275,7 @@ mark-writable b most mark s = record { count = mark-count mark.1; small = (omega
 door-writable : (d : ℕ) → d < 2 ^ 32 → Writable (door_card d)
 door-writable d l = record { count = refl; small = (l, tt) }
 
-pub plan-writable : (plan : Plan) → Sound plan → All Writable (plan_cards plan)
+pub plan-writable : (plan : Plan) → Sound plan → AllByRecursion Writable (plan_cards plan)
 plan-writable plan s = (
   record { count = refl; small = (omega (arith, s.at_most_32_nodes), (omega (arith, s.at_most_32_nodes, s.the_head_is_a_node), tt)) },
   All-append Writable (map branch_card plan.rows) _

@@ -1,5 +1,5 @@
 -- The laws of the public calls.
-use Rattle.std.proofs.Common.{◌≡◌, ℕ, ◌+◌, ◌-◌, ◌≤◌, leb, List, [], ◌∷◌, ◌++◌, map, length, drop, Ok, Err, Result, sym, refl, ap, ◌∙◌, arith}
+use Rattle.std.proofs.Common.{◌≡◌, ℕ, ◌≤◌, leb, List, [], ◌∷◌, ◌++◌, map, length, drop, Ok, Err, Result, sym, refl, ap, ◌∙◌, arith}
 use Rattle.std.specs.List.{slice_get}
 use Rattle.std.proofs.lemmas.Bool.{le-leb, eq-eqb, and_from}
 use Rattle.refusals.specs.declared.deck_fault.DeckRefusal.{DeckRefusal}
@@ -9,7 +9,7 @@ use Rattle.network.specs.declared.branch.Condition.TheVariants.{Able, Failed, Wo
 use Rattle.deck.specs.Cards.{Reading, cards}
 use Rattle.deck.specs.Decks.{Entry, branches_in, ends_line, bytes_asked, read_if, read_cards, read_bytes, deck_read, table_after}
 use Rattle.deck.specs.Doorways.{doors_in}
-use Rattle.deck.specs.Laws.{Plan, Sound, nodes_card, branch_card, mark_card, door_card, plan_cards, text, written, applied, described, ComesBack, Describes, DeckLaws, DoorLaws}
+use Rattle.deck.specs.Laws.{Plan, Sound, nodes_card, branch_card, mark_card, door_card, plan_cards, written, applied, described, ComesBack, Describes, DeckLaws, DoorLaws}
 use Rattle.deck.specs.declared.reader.Deck.{Deck}
 use Rattle.deck.proofs.Doorways.{doors-agree}
 use Rattle.deck.proofs.Texts.{shown, cards-text, ends-text}

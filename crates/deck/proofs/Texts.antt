@@ -1,8 +1,8 @@
 -- The cards of a written text.
-use Rattle.std.proofs.Common.{◌≡◌, ℕ, suc, ◌+◌, ◌-◌, ◌^◌, ◌<◌, ◌≤◌, Bool, true, false, cond, eqb, List, [], ◌∷◌, ◌++◌, map, length, get_or, Some, decimal, sym, refl, ap, ◌∙◌, append_assoc, append-nil, arith}
+use Rattle.std.proofs.Common.{◌≡◌, ℕ, suc, ◌-◌, ◌^◌, ◌<◌, ◌≤◌, Bool, true, false, cond, eqb, List, [], ◌∷◌, ◌++◌, map, length, get_or, Some, decimal, sym, refl, ap, ◌∙◌, append_assoc, append-nil, arith}
 use Rattle.std.specs.Str.Parse.{digits_value}
 use Rattle.std.specs.Char.{is_ascii_digit}
-use Rattle.std.specs.List.{AllByRecursion as All}
+use Rattle.std.specs.List.{AllByRecursion}
 use Rattle.std.specs.Str.{all_ascii_digits}
 use Rattle.std.proofs.lemmas.Fmt.{digits_decimal, digits_value-decimal, length-decimal-le, decimal_nonempty}
 use Rattle.std.proofs.lemmas.Bool.{eq-eqb, ne_eqb, and_from, and_parts, le-leb}
@@ -61,7 +61,7 @@ last_word (c ∷ p) h =
     rw (e, more)
 
 abbrev Small : List ℕ → Type 0
-Small ns = All (λ n. n < 2 ^ 32) ns
+Small ns = AllByRecursion (λ n. n < 2 ^ 32) ns
 
 words-spaced : (p ns : List ℕ) → Small ns → lacks 32 p ≡ true → words (p ++ spaced ns) ≡ p ∷ map decimal ns
 words-spaced p [] s h = ap words (append-nil p) ∙ last_word p h
@@ -92,7 +92,7 @@ numbers-back (n ∷ ns) s =
 -- the card of a line, and those of a text
 pub record Writable (c : Keyword × List ℕ) : Type 0 where
   pub count : length c.1 ≡ numbers_for c.0
-  pub small : All (λ n. n < 2 ^ 32) c.1
+  pub small : AllByRecursion (λ n. n < 2 ^ 32) c.1
 
 abbrev pub shown : Keyword × List ℕ → Reading
 shown c = card c.0 (Some c.1)
@@ -109,7 +109,7 @@ card-back c w =
     ap card_on (words-spaced (spelled c.0) c.1 w.small (lacks-spelled c.0).1) ∙ ap (λ o. card_by o (map decimal c.1)) (spelled_back c.0)
     ∙ ap (λ n. card c.0 (numbers_in n (map decimal c.1))) (sym w.count) ∙ ap (card c.0) (numbers-back c.1 w.small)
 
-pub cards-text : (cs : List (Keyword × List ℕ)) → All Writable cs → cards (text cs) ≡ map shown cs
+pub cards-text : (cs : List (Keyword × List ℕ)) → AllByRecursion Writable cs → cards (text cs) ≡ map shown cs
 cards-text [] h = refl
 cards-text (c ∷ cs) h =
     let line = lacks-append 10 (spelled c.0) (spaced c.1) (lacks-spelled c.0).0 (lacks-spaced c.1 h.0.small) in

@@ -1,5 +1,5 @@
 -- The words of a line, from the word that a slice pattern found at its front.
-use Rattle.std.proofs.Common.{◌≡◌, ℕ, zero, suc, ◌+◌, ◌<◌, true, false, eqb, List, [], ◌∷◌, ◌++◌, get_or, take, drop, Some, None, sym, refl, ap, ◌∙◌, ⊎_elim, arith, take-append-drop}
+use Rattle.std.proofs.Common.{◌≡◌, ℕ, zero, suc, ◌<◌, true, false, eqb, List, [], ◌∷◌, ◌++◌, get_or, take, drop, Some, None, sym, refl, ap, ◌∙◌, ⊎_elim, arith, take-append-drop}
 use Rattle.std.proofs.lemmas.Bool.{eqb-true, eqb-false, cases_Bool, and_parts, cond-false, both_ways}
 use Rattle.deck.specs.Words.{words, numbers_in}
 use Rattle.deck.specs.Cards.{Keyword, nodes, branch, failed, working, door, spelled, numbers_for, same, keyword_for, unknown, card, card_by, card_on}

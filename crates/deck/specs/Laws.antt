@@ -1,6 +1,6 @@
 -- What a caller may rely on, in terms of whole decks.
 use Rattle.std.specs.Prelude.{◌≡◌, ℕ, ◌+◌, ◌^◌, ◌<◌, ◌≤◌, List, [], ◌∷◌, ◌++◌, map, length, take, drop, Some, Ok, Err, decimal, Result, ◌≢◌}
-use Rattle.std.specs.List.{slice_get, AllByRecursion as All}
+use Rattle.std.specs.List.{slice_get, AllByRecursion}
 use Rattle.refusals.specs.declared.deck_fault.DeckRefusal.{DeckRefusal}
 use Rattle.network.specs.declared.branch.TableRow.{TableRow}
 use Rattle.network.specs.declared.branch.Condition.{Condition}
@@ -40,10 +40,10 @@ pub record Sound (plan : Plan) : Type 0 where
   pub the_head_is_a_node : plan.head < plan.nodes
   pub some_branch : 1 ≤ length plan.rows
   pub at_most_64_branches : length plan.rows ≤ 64
-  pub each_branch_is_sound : All (SoundRow plan.nodes) plan.rows
-  pub each_mark_is_sound : All (SoundMark (length plan.rows)) plan.marks
+  pub each_branch_is_sound : AllByRecursion (SoundRow plan.nodes) plan.rows
+  pub each_mark_is_sound : AllByRecursion (SoundMark (length plan.rows)) plan.marks
   pub some_door : 1 ≤ length plan.doors
-  pub each_door_fits_32_bits : All (λ d. d < 2 ^ 32) plan.doors
+  pub each_door_fits_32_bits : AllByRecursion (λ d. d < 2 ^ 32) plan.doors
 
 -- The text of a plan: a line for each card, with its word, each number after a space, and byte 10.
 
@@ -90,7 +90,7 @@ described plan = applied plan.marks plan.rows
 
 -- no mark of the list is on branch k
 abbrev pub Unmarked : ℕ → List (ℕ × Condition) → Type 0
-Unmarked k marks = All (λ mark. mark.0 ≢ k) marks
+Unmarked k marks = AllByRecursion (λ mark. mark.0 ≢ k) marks
 
 abbrev pub plan_deck : Plan → Deck
 plan_deck plan = record { nodes = plan.nodes; head = plan.head; branches = length plan.rows; door_line = length plan.rows + length plan.marks + 2 }

@@ -2,7 +2,7 @@
 ghost use Rattle.std.specs.Prelude.{◌≡◌, ◌≤◌, true, [], ◌++◌, length, take, drop, ◌==◌};
 ghost use Rattle.network.specs.Questions.{asked};
 ghost use Rattle.refusals.specs.declared.deck_fault.DeckFault.TheVariants.{Turn};
-ghost use Rattle.deck.specs.Cards.{nodes as nodesWord, branch as branchWord, door as doorWord};
+ghost use Rattle.deck.specs.Cards.{nodes as nodes_word, branch as branch_word, door as door_word};
 ghost use Rattle.deck.specs.Decks.{follows, plan_asked};
 ghost use Rattle.deck.specs.Drafts.{ends_word, tail_words, keyword_of, numbers_of, line_of, rank, Holds, Takes, TakesMark, held_deck};
 
@@ -76,7 +76,7 @@ impl Draft {
 
     fn put_nodes(&mut self, line: u32, words: &[u8]) -> Result<(), DeckFault>
         requires { ends_word words.now ≡ true }
-        ensures { Takes self.old nodesWord line (tail_words words.now) result self.new }
+        ensures { Takes self.old nodes_word line (tail_words words.now) result self.new }
     {
         if !self.section.may_precede(Section::Nodes) {
             return Err(DeckFault::Turn);
@@ -92,7 +92,7 @@ impl Draft {
     fn put_branch(&mut self, line: u32, words: &[u8]) -> Result<(), DeckFault>
         requires words { ends_word words.now ≡ true }
         requires few { self.old.count ≤ 64 }
-        ensures { Takes self.old branchWord line (tail_words words.now) result self.new }
+        ensures { Takes self.old branch_word line (tail_words words.now) result self.new }
     {
         if !self.section.may_precede(Section::Branches) {
             return Err(DeckFault::Turn);
@@ -132,7 +132,7 @@ impl Draft {
 
     fn put_door(&mut self, line: u32, words: &[u8]) -> Result<(), DeckFault>
         requires { ends_word words.now ≡ true }
-        ensures { Takes self.old doorWord line (tail_words words.now) result self.new }
+        ensures { Takes self.old door_word line (tail_words words.now) result self.new }
     {
         if !self.section.may_precede(Section::Doors) {
             return Err(DeckFault::Turn);

@@ -1,4 +1,6 @@
 // Describes each deck of a folder, by the file names that it reads from standard input, one to a line.
+#![tactic(auto)]
+
 use sheet::description::describe;
 use std::fs;
 use std::io::{BufRead, BufReader};

@@ -1,4 +1,6 @@
 // Reads a deck from standard input, and prints why it is refused, or the network and the doors that it tells.
+#![tactic(auto)]
+
 use sheet::description::describe;
 use std::io::Read;
 

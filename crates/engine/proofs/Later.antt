@@ -1,7 +1,7 @@
 -- From one point of a run to the next: what is added, what stays, and what is counted.
-use Rattle.std.proofs.Common.{◌≡◌, ℕ, zero, suc, ◌+◌, ◌-◌, ◌≤◌, true, false, List, [], ◌∷◌, ◌++◌, map, set, Some, None, Ok, Err, fold, Option, sym, refl, ap, ◌∙◌, subst, inl, inr, append_assoc, append-nil, arith}
+use Rattle.std.proofs.Common.{◌≡◌, ℕ, zero, suc, ◌+◌, ◌≤◌, true, false, List, [], ◌∷◌, ◌++◌, map, set, Some, None, Ok, Err, fold, Option, sym, refl, ap, ◌∙◌, subst, inl, inr, append_assoc, append-nil, arith}
 use mathlib.Core.List.{map-append}
-use Rattle.std.specs.List.{AllByRecursion as All}
+use Rattle.std.specs.List.{AllByRecursion}
 use Rattle.std.proofs.lemmas.Bool.{cases_Bool}
 use Rattle.sets.proofs.Members.{clash}
 use Rattle.refusals.specs.declared.study_fault.StudyFault.{StudyFault}
@@ -121,7 +121,7 @@ module _ {Num : Type 0} (net : Net) (ratings : List Rating) (scale : Arithmetic 
     follows-call s e Bounds n = (e, later_same net door s.search)
 
     -- while no aim is accepted
-    pub follows : (calls : List Call) (s : State) → s.door ≡ Some door → All (λ given. accepts_aim given ≡ false) (answers net ratings scale s calls) → Follows net door s (fold (called net) s calls)
+    pub follows : (calls : List Call) (s : State) → s.door ≡ Some door → AllByRecursion (λ given. accepts_aim given ≡ false) (answers net ratings scale s calls) → Follows net door s (fold (called net) s calls)
     follows [] s e h = (e, later_same net door s.search)
     follows (c ∷ calls) s e h =
         let t = called net s c in

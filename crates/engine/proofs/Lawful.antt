@@ -1,6 +1,6 @@
 -- The law over runs.
 use Rattle.std.proofs.Common.{◌≡◌, ℕ, ◌-◌, ◌*◌, ◌<◌, ◌≤◌, Bool, true, false, not, eqb, ltb, List, [], ◌∷◌, ◌++◌, length, get_or, Some, None, Ok, Err, fold, Option, sym, refl, ap, ◌∙◌, subst, arith}
-use Rattle.std.specs.List.{ContainsAt as Has, AllByRecursion as All}
+use Rattle.std.specs.List.{ContainsAt as Has, AllByRecursion}
 use Rattle.std.proofs.ByRecursion.{All-from_get_or, has_get_or}
 use Rattle.std.proofs.lemmas.List.{length-map, get_or-map}
 use Rattle.std.proofs.lemmas.Option.{slice_get-get_or, slice_get_past}
@@ -148,7 +148,7 @@ module _ {Num : Type 0} (net : RatedNet) (legal : LegalRated net) (head : ℕ) (
     shows-no-more : (k : ℕ) → length sets ≤ k → show_answer net.plain k (state_at net head scale calls p) ≡ Err NoRow
     shows-no-more k l = ap (show_of net.plain k rows) p.aimed ∙ ap (shown net.plain) (slice_get_past rows k (omega (arith, length-map rows (branch_set net.plain))))
 
-    minimal : All (MinimalCut net.plain head p.door) sets
+    minimal : AllByRecursion (MinimalCut net.plain head p.door) sets
     minimal = All-from_get_or (MinimalCut net.plain head p.door) sets 0 (λ i l. subst (MinimalCut net.plain head p.door) (sym (at i l)) (all.minimal i (within i l)))
 
     complete : finished_at net head scale calls p ≡ true → (Z : ℕ) → MinimalCut net.plain head p.door Z → Has sets Z

@@ -1,6 +1,6 @@
 -- The law over runs: what holds of a study at every point of any list of calls after its set_up.
 use Rattle.std.specs.Prelude.{◌≡◌, ℕ, ◌-◌, ◌*◌, ◌^◌, ◌<◌, ◌≤◌, Bool, true, false, not, ◌&&◌, List, ◌++◌, length, Some, Ok, Err, Decides, slice_index}
-use Rattle.std.specs.List.{ContainsAt as Has, AllByRecursion as All}
+use Rattle.std.specs.List.{ContainsAt as Has, AllByRecursion}
 use Rattle.refusals.specs.declared.study_fault.StudyFault.TheVariants.{NoRow}
 use Rattle.network.specs.Meaning.{RatedNet, LegalRated}
 use Rattle.search.specs.Cuts.{branches_of, without, Cut, MinimalCut}
@@ -69,7 +69,7 @@ module _ {Num : Type 0} (net : RatedNet) (head : ℕ) (scale : Arithmetic Num) (
     pub later : Point
     pub between : List Call
     pub follows : later.before ≡ earlier.before ++ between
-    pub no_aim : All (λ given. accepts_aim given ≡ false) (answers net.plain net.ratings scale (after net.plain head earlier.before) between)
+    pub no_aim : AllByRecursion (λ given. accepts_aim given ≡ false) (answers net.plain net.ratings scale (after net.plain head earlier.before) between)
 
   pub record Law : Type 0 where
     -- the list and the bounds are what showing and asking answer
@@ -77,7 +77,7 @@ module _ {Num : Type 0} (net : RatedNet) (head : ℕ) (scale : Arithmetic Num) (
     pub showing_ends_with_the_list : (p : Point) (k : ℕ) → length (listed_at p) ≤ k → show_answer net.plain k (state_at p) ≡ Err NoRow
     pub asking_answers_the_bounds : (p : Point) → bounds_answer net.plain net.ratings scale (state_at p) ≡ Ok (bounds_at p)
     -- the list has minimal cuts only, each once, and all of them once the search is finished
-    pub every_listed_set_is_a_minimal_cut : (p : Point) → All (MinimalCut net.plain head p.door) (listed_at p)
+    pub every_listed_set_is_a_minimal_cut : (p : Point) → AllByRecursion (MinimalCut net.plain head p.door) (listed_at p)
     pub no_set_is_listed_twice : (p : Point) (i j : ℕ) → i < length (listed_at p) → j < length (listed_at p) → slice_index (listed_at p) i ≡ slice_index (listed_at p) j → i ≡ j
     pub finished_only_when_every_minimal_cut_is_listed : (p : Point) → finished_at p ≡ true → (Z : ℕ) → MinimalCut net.plain head p.door Z → Has (listed_at p) Z
     -- at most two less than the node count for each row

@@ -1,4 +1,6 @@
 // Studies of a network: set_up, aims, advances, showings, bounds, and whole lists of calls.
+#![tactic(auto)]
+
 pub mod call;
 pub mod carry;
 mod listing;

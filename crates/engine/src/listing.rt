@@ -9,7 +9,7 @@ use search::row::Row;
 // Writes the branch set of each row into its place.
 pub(crate) fn list_sets<N: Network>(network: &N, rows: &[Row], sets: &mut [u64])
     requires { length rows.now ≤ length sets.old }
-    ensures { take (length rows.now) sets.new ≡ map (branch_set (net network.now)) rows.now }
+    ensures { take (length rows.now) sets.new ≡ map (branch_set (N.net network.now)) rows.now }
 {
     for (k, row) in rows.iter().enumerate() {
         sets[k] = branch_set_of(network, *row);

@@ -8,7 +8,7 @@ use search::questions::{is_held, is_joined};
 
 // Is the door a node, another than the head, joined to it, and not so joined that no failure can part them?
 pub(crate) fn check_door<N: Network>(network: &N, head: u32, door: u32) -> Result<(), StudyFault>
-    ensures { result ≡ door_asked (net network.now) head door }
+    ensures { result ≡ door_asked (N.net network.now) head door }
 {
     if door >= network.nodes() {
         return Err(StudyFault::Door);

@@ -1,5 +1,5 @@
 -- The laws of the layers.
-use Rattle.std.proofs.Common.{◌≡◌, ℕ, zero, suc, ◌+◌, ◌-◌, ◌<◌, ◌≤◌, Bool, true, false, cond, eqb, ltb, leb, ◌⊎◌, List, [], ◌∷◌, map, length, Some, sym, refl, ap, ◌∙◌, subst, inl, inr, ⊎_elim, arith}
+use Rattle.std.proofs.Common.{◌≡◌, ℕ, zero, suc, ◌+◌, ◌-◌, ◌≤◌, true, List, [], ◌∷◌, length, sym, refl, ap, ◌∙◌, ⊎_elim, arith}
 use Rattle.std.specs.List.{slice_get}
 use Rattle.std.specs.Option.{option_map}
 use Rattle.std.proofs.lemmas.List.{length-append, length-map}
@@ -7,9 +7,9 @@ use Rattle.std.proofs.lemmas.Bool.{cond-true, cond-false, eq-eqb, ne_eqb, and_fr
 use Rattle.sets.proofs.Nth.{mapped-id, nth-map, nth-append-left, nth-append-add}
 use Rattle.network.specs.declared.branch.Branch.{Branch}
 use Rattle.network.specs.declared.branch.Condition.{Condition}
-use Rattle.network.specs.Meaning.{Net, RatedNet, empty_net}
-use Rattle.layers.specs.Meaning.{told, retold_at, retold, moved_node, moved, joint_fits, joint_net, joint_rated}
-use Rattle.layers.specs.Laws.{Marked, Joinable, Renumbered, Moved, Joined}
+use Rattle.network.specs.Meaning.{Net}
+use Rattle.layers.specs.Meaning.{told, retold_at, retold, moved_node, moved, joint_fits, joint_net}
+use Rattle.layers.specs.Laws.{Marked, Joinable, Renumbered, Joined}
 use Rattle.layers.specs.Legality.{length-retold_at, joinable-when}
 use Rattle.layers.proofs.Retold.{nth-retold_at}
 

@@ -1,9 +1,8 @@
 -- What the layers do, in terms of the networks below them.
-use Rattle.std.specs.Prelude.{◌≡◌, ℕ, ◌+◌, ◌-◌, ◌<◌, ◌≤◌, List, length, Some, ◌≢◌}
+use Rattle.std.specs.Prelude.{◌≡◌, ℕ, ◌+◌, ◌-◌, ◌<◌, ◌≤◌, length, Some, ◌≢◌}
 use Rattle.std.specs.List.{slice_get}
 use Rattle.network.specs.declared.branch.Branch.{Branch}
 use Rattle.network.specs.declared.branch.Condition.{Condition}
-use Rattle.network.specs.declared.rating.Rating.{Rating}
 use Rattle.network.specs.Meaning.{Net, RatedNet, empty_net}
 use Rattle.layers.specs.Meaning.{retold_rated, joint_rated}
 

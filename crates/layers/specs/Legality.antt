@@ -1,7 +1,7 @@
 -- Each layer's meaning is legal, if those below it are.
-use Rattle.std.specs.Prelude.{◌≡◌, ℕ, zero, suc, ◌+◌, ◌-◌, ◌<◌, ◌≤◌, Bool, true, false, cond, ◌&&◌, List, [], ◌∷◌, map, length, nat_le, nat_lt, refl}
+use Rattle.std.specs.Prelude.{◌≡◌, ℕ, zero, suc, ◌+◌, ◌-◌, ◌<◌, Bool, true, false, cond, List, [], ◌∷◌, length, nat_le, nat_lt, refl}
 use Rattle.std.proofs.Common.{ap, ap₂, arith}
-use Rattle.std.specs.List.{AllByRecursion as All}
+use Rattle.std.specs.List.{AllByRecursion}
 use Rattle.std.proofs.ByRecursion.{All-append, All-map, All-weaker}
 use Rattle.std.proofs.lemmas.List.{length-append, length-map}
 use Rattle.std.proofs.lemmas.Bool.{and_parts, cond_both, leb-true, ltb-true}
@@ -20,7 +20,7 @@ module _ (c : Condition) where
   length-retold_at zero (b ∷ bs) = refl
   length-retold_at (suc k) (b ∷ bs) = ap suc (length-retold_at k bs)
 
-  all-retold_at : (n k : ℕ) (bs : List Branch) → All (Within n) bs → All (Within n) (retold_at c k bs)
+  all-retold_at : (n k : ℕ) (bs : List Branch) → AllByRecursion (Within n) bs → AllByRecursion (Within n) (retold_at c k bs)
   all-retold_at n k [] h = h
   all-retold_at n zero (b ∷ bs) h = h
   all-retold_at n (suc k) (b ∷ bs) h = (h.0, all-retold_at n k bs h.1)

@@ -1,14 +1,14 @@
 -- Two ratings of the same numbers are the same, and legal numbers are taken as they are.
-use Rattle.std.proofs.Common.{◌≡◌, ℕ, ◌≤◌, min, max, true, false, cond, ◌&&◌, leb, List, map, is_ok, Some, None, sym, refl, ap, ◌∙◌, arith}
+use Rattle.std.proofs.Common.{◌≡◌, ℕ, ◌≤◌, true, List, map, is_ok, Some, sym, ap, ◌∙◌, arith}
 use mathlib.Core.HLevel.{is_prop→PathP}
 use native.Mathlib.Bridge.{le_prop}
 use Rattle.std.specs.List.{slice_get}
 use Rattle.std.specs.Option.{option_map}
-use Rattle.std.proofs.lemmas.Bool.{and_parts, leb-true, le-leb, and_from, cond-true}
+use Rattle.std.proofs.lemmas.Bool.{le-leb, and_from, cond-true}
 use Rattle.network.specs.declared.rating.Rating.{Rating}
 use Rattle.network.specs.declared.branch.TableRow.{TableRow}
 use Rattle.sets.proofs.Nth.{nth-map, all-nth}
-use Rattle.network.specs.Ratings.{rating_fits, rating_from, checked_rating}
+use Rattle.network.specs.Ratings.{rating_from, checked_rating}
 use Rattle.network.specs.Meaning.{rating_of}
 use Rattle.network.specs.Questions.{rows_asked}
 use Rattle.network.specs.Legality.{Sound, all_sound}

@@ -1,9 +1,9 @@
 -- The questions of a table, row by row.
-use Rattle.std.proofs.Common.{◌≡◌, ℕ, ◌+◌, ◌<◌, ◌≤◌, true, List, length, get_or, drop, is_ok, Ok, Err, sym, refl, ap, ◌∙◌, arith}
+use Rattle.std.proofs.Common.{◌≡◌, ℕ, ◌+◌, ◌<◌, ◌≤◌, List, length, get_or, drop, Ok, Err, sym, ap, ◌∙◌}
 use Rattle.std.proofs.lemmas.List.{at_drop_more, at_drop_all}
 use Rattle.refusals.specs.declared.network_fault.NetworkFault.{NetworkFault}
 use Rattle.network.specs.declared.branch.TableRow.{TableRow}
-use Rattle.network.specs.Questions.{Answer, and_then, row_asked, rows_asked}
+use Rattle.network.specs.Questions.{and_then, row_asked, rows_asked}
 
 module _ (n k : ℕ) (rows : List TableRow) (d : TableRow) (within : k < length rows) where
   step : rows_asked n k (drop k rows) ≡ and_then (row_asked n k (get_or rows k d)) (rows_asked n (k + 1) (drop (k + 1) rows))

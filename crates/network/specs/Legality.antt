@@ -1,7 +1,7 @@
 -- Each network's meaning is legal, if those below it are.
-use Rattle.std.specs.Prelude.{◌≡◌, ℕ, ◌+◌, ◌<◌, ◌≤◌, Bool, true, false, ◌&&◌, List, [], ◌∷◌, map, length, replicate, is_ok, Ok, Err, ◌==◌, nat_lt, refl}
+use Rattle.std.specs.Prelude.{◌≡◌, ℕ, ◌+◌, ◌<◌, ◌≤◌, Bool, true, false, ◌&&◌, List, [], ◌∷◌, map, length, is_ok, Ok, Err, ◌==◌, nat_lt, refl}
 use Rattle.std.proofs.Common.{arith}
-use Rattle.std.specs.List.{range_with_len, AllByRecursion as All}
+use Rattle.std.specs.List.{range_with_len, AllByRecursion}
 use Rattle.std.proofs.lemmas.List.FromFn.{length-map-range_with_len, get_or-map-range_with_len}
 use Rattle.std.proofs.ByRecursion.{All-from_get_or, All-map, All-weaker}
 use Rattle.std.proofs.lemmas.List.{length-map, length-replicate}
@@ -11,7 +11,7 @@ use Rattle.network.specs.declared.rating.Rating.{Rating}
 use Rattle.network.specs.Ratings.{rating_fits}
 use Rattle.network.specs.Meaning.{Within, Legal, LegalRated}
 use Rattle.network.specs.Meaning.{ring_branch, ring_net, ring_rated}
-use Rattle.network.specs.Meaning.{branch_of, rating_of, list_net, list_rated}
+use Rattle.network.specs.Meaning.{branch_of, list_net, list_rated}
 use Rattle.network.specs.Questions.{Answer, asked, and_then, row_asked, rows_asked}
 
 -- a ring
@@ -63,7 +63,7 @@ sound-row n k row e =
     let h = passed (nat_lt row.from n && nat_lt row.to n) _ (asked (rating_fits row.mantissa row.exponent) _) e in
     (within-ends row.from row.to n h.0, asked-true _ _ h.1)
 
-pub all_sound : (n k : ℕ) (rows : List TableRow) → is_ok (rows_asked n k rows) ≡ true → All (Sound n) rows
+pub all_sound : (n k : ℕ) (rows : List TableRow) → is_ok (rows_asked n k rows) ≡ true → AllByRecursion (Sound n) rows
 all_sound n k [] e = tt
 all_sound n k (row ∷ rows) e =
     let h = first-passed (row_asked n k row) (rows_asked n (k + 1) rows) e in (sound-row n k row h.0, all_sound n (k + 1) rows h.1)

@@ -1,6 +1,6 @@
 -- What networks mean.
 use Rattle.std.specs.Prelude.{◌≡◌, ℕ, ◌+◌, ◌<◌, ◌≤◌, cond, List, [], ◌∷◌, ◌++◌, map, length, replicate, codes, decimal, ◌==◌}
-use Rattle.std.specs.List.{range_with_len, AllByRecursion as All}
+use Rattle.std.specs.List.{range_with_len, AllByRecursion}
 use Rattle.network.specs.declared.branch.Branch.{Branch}
 use Rattle.network.specs.declared.branch.TableRow.{TableRow}
 use Rattle.network.specs.declared.branch.Condition.{Condition}
@@ -31,7 +31,7 @@ Within n b = (b.from < n) × (b.to < n)
 pub record Legal (net : Net) : Type 0 where
   pub nodes : net.nodes ≤ 32
   pub branches : length net.branches ≤ 64
-  pub ends : All (Within net.nodes) net.branches
+  pub ends : AllByRecursion (Within net.nodes) net.branches
 
 -- a rated network: a network with a rating for each branch, which is legal by its type
 pub record RatedNet : Type 0 where

@@ -1,5 +1,5 @@
 -- What is asked before a network is made or studied: the first no decides.
-use Rattle.std.specs.Prelude.{ℕ, ◌+◌, Bool, cond, ◌&&◌, List, [], ◌∷◌, length, Some, None, Ok, Err, Option, Result, nat_le, nat_lt}
+use Rattle.std.specs.Prelude.{ℕ, ◌+◌, Bool, cond, ◌&&◌, List, [], ◌∷◌, length, Ok, Err, Result, nat_le, nat_lt}
 use Rattle.refusals.specs.declared.network_fault.NetworkFault.{NetworkFault}
 use Rattle.refusals.specs.declared.network_fault.NetworkFault.TheVariants.{NodeCount, BranchCount, BadEnd, BadRating}
 use Rattle.refusals.specs.declared.study_fault.StudyFault.{StudyFault}

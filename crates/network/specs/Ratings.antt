@@ -1,5 +1,5 @@
 -- Ratings: which two numbers are one.
-use Rattle.std.specs.Prelude.{ℕ, ◌≤◌, min, max, Bool, cond, ◌&&◌, List, ◌++◌, Some, None, codes, decimal, Option, nat_le}
+use Rattle.std.specs.Prelude.{ℕ, min, max, Bool, cond, ◌&&◌, List, ◌++◌, Some, None, codes, decimal, Option, nat_le}
 use Rattle.std.proofs.Common.{arith}
 use Rattle.network.specs.declared.rating.Rating.{Rating}
 

@@ -1,4 +1,6 @@
 // Networks of nodes and branches: what every network answers, the questions asked of one, the list and the ring.
+#![tactic(auto)]
+
 pub mod borrowed;
 pub mod branch;
 pub mod list;

@@ -1,4 +1,6 @@
 // Operations of the two scales, one to a line of standard input: each line is printed again with its results.
+#![tactic(auto)]
+
 use anyhow::anyhow;
 use network::rating::Rating;
 use scale::Scale;

@@ -1,5 +1,7 @@
 // Piles of networks, told branch by branch. Each line of standard input is a case: the nodes and branches of a first and a
 // second list, the node at which they are joined, the branch of the joint that is out, and the branch that is sure.
+#![tactic(auto)]
+
 ghost use Rattle.std.specs.Prelude.{◌≡◌, ℕ, ◌<◌, ◌≤◌, max, [], is_ok, if◌then◌else◌, slice_index_or};
 ghost use Rattle.network.specs.Questions.{list_asked};
 ghost use Rattle.piles.specs.Rows.{row_of};

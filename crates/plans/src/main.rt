@@ -1,5 +1,7 @@
 // The sheets of a folder of decks, by the file names that are read from standard input, one to a line. One study serves them all,
 // so each plan is studied after all the others before it.
+#![tactic(auto)]
+
 use engine::study::Study;
 use sheet::study_sheet::write_sheet;
 use std::fs;

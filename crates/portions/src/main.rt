@@ -1,4 +1,6 @@
 // The same sheets in portions: each line of standard input names the file of a deck and the budget of each advance.
+#![tactic(auto)]
+
 use anyhow::anyhow;
 use deck::doors::Doors;
 use deck::reader::{Deck, read_deck};

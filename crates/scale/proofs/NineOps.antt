@@ -2,7 +2,7 @@
 use Rattle.std.proofs.Common.{◌≡◌, ℕ, ◌+◌, ◌-◌, ◌*◌, ◌^◌, ◌<◌, ◌≤◌, Bool, true, false, sym, refl, ap, ◌∙◌, ap₂, mul-le-mul_right, mul-le-mul_left, mul-lt-mul_of_pos_right, mul-pos, arith, pow-add}
 use native.Mathlib.Nat.{mul-sub, pow-le-pow_right}
 use Rattle.std.proofs.lemmas.Bool.{le-leb, lt-leb}
-use Rattle.scale.specs.Fractions.{Fraction, ◌≤ᶠ◌, ◌=ᶠ◌, ◌+ᶠ◌, ◌-ᶠ◌, ◌×ᶠ◌, decimal, whole}
+use Rattle.scale.specs.Fractions.{◌≤ᶠ◌, ◌=ᶠ◌, ◌+ᶠ◌, ◌-ᶠ◌, ◌×ᶠ◌, decimal, whole}
 use Rattle.scale.specs.NineFigures.{worth, nought, unit, floor, ceiling, nine_figures}
 use Rattle.scale.specs.Arithmetic.{chance}
 use Rattle.scale.specs.declared.nine_figures.Decimal.{Decimal}

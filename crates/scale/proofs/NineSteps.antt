@@ -1,12 +1,12 @@
 -- The steps by which m / 10^e is brought to nine figures.
-use Rattle.std.proofs.Common.{◌≡◌, ℕ, ◌+◌, ◌-◌, ◌*◌, ◌/◌, ◌%◌, ◌^◌, ◌<◌, ◌≤◌, refl, ap, ◌∙◌, ap₂, ⊎_elim, mul-le-mul_right, mod-lt, mul-le-mul_left, mul-lt-mul_of_pos_right, div-add-mod', arith}
+use Rattle.std.proofs.Common.{◌≡◌, ℕ, ◌+◌, ◌-◌, ◌*◌, ◌/◌, ◌^◌, ◌<◌, ◌≤◌, refl, ap, ◌∙◌, ap₂, ⊎_elim, mul-le-mul_right, arith}
 use native.Mathlib.Nat.{pow-le-pow_right}
 use Rattle.std.proofs.lemmas.Bool.{cases_lt}
 use Rattle.scale.specs.Quotients.{ceil_div}
 use Rattle.scale.specs.Fractions.{Fraction, ◌≤ᶠ◌, ◌=ᶠ◌, decimal, whole}
 use Rattle.scale.specs.NineFigures.{worth, nought, unit, floor, ceiling}
 use Rattle.scale.specs.declared.nine_figures.Decimal.{Decimal}
-use Rattle.scale.specs.FractionOrder.{◌<ᶠ◌, at-most-trans, at-most-below, below-at-most}
+use Rattle.scale.specs.FractionOrder.{◌<ᶠ◌, at-most-below, below-at-most}
 use Rattle.scale.specs.NineForms.{none_between, one_form, shorter}
 use Rattle.scale.specs.NineLaws.{RoundedDown, RoundedUp, rounds, none_above, ten-more, unit-down, nought-down, unit-up, nought-up, least-up}
 use Rattle.scale.specs.QuotientsLemmas.{ceil-above, ceil-before}

@@ -36,7 +36,7 @@ reached q h = let p = le-div 1000000000 (q.top * 1000000000) q.under q.above_zer
 
 rounds : Rounds billionth_rounding
 rounds = record {
-  to-one = to-one;
+  to_one = to-one;
   downward = λ q. record {
     not_above = min-below _ _ _ _ (div-mul-le_self (q.top * 1000000000) q.under);
     largest = λ x h. let p = le-div x.units (q.top * 1000000000) q.under q.above_zero h in omega (arith, x.to_one);

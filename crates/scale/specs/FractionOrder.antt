@@ -1,7 +1,7 @@
 -- The order of fractions.
 use Rattle.std.specs.Prelude.{◌≡◌, ℕ, ◌+◌, ◌-◌, ◌*◌, ◌^◌, ◌<◌, ◌≤◌}
 use Rattle.std.proofs.Common.{ap, ◌∙◌, mul-le-mul_right, mul-lt-mul_of_pos_right, le_of_mul-le-mul_right, lt_of_mul-lt-mul_right, arith, pow-add}
-use Rattle.scale.specs.Fractions.{Fraction, ◌≤ᶠ◌, decimal}
+use Rattle.scale.specs.Fractions.{Fraction, ◌≤ᶠ◌}
 
 infix 50 ◌<ᶠ◌
 abbrev pub ◌<ᶠ◌ : Fraction → Fraction → Type 0

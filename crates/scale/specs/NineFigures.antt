@@ -1,11 +1,10 @@
 -- The scale of 0, 1, and m / 10^e with m of nine figures and e from 9 to 60.
-use Rattle.std.specs.Prelude.{ℕ, zero, suc, ◌+◌, ◌*◌, ◌/◌, ◌^◌, min, max, Bool, cond, ◌==◌, nat_le, nat_lt}
+use Rattle.std.specs.Prelude.{ℕ, zero, suc, ◌+◌, ◌*◌, ◌/◌, ◌^◌, min, max, cond, ◌==◌, nat_le, nat_lt}
 use Rattle.std.proofs.Common.{arith}
 use Rattle.scale.specs.Quotients.{ceil_div}
 use Rattle.scale.specs.Fractions.{Fraction, decimal}
 use Rattle.scale.specs.Arithmetic.{Arithmetic}
 use Rattle.scale.specs.Rounding.{Rounding, arithmetic_of}
-use Rattle.scale.specs.Form.{Form}
 use Rattle.scale.specs.declared.nine_figures.Decimal.{Decimal}
 
 abbrev pub worth : Decimal → Fraction

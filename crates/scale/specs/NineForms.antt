@@ -1,12 +1,12 @@
 -- The numbers of nine figures: equal values are one number, and there is none between neighbours.
-use Rattle.std.specs.Prelude.{◌≡◌, ℕ, ◌+◌, ◌-◌, ◌*◌, ◌^◌, ◌<◌, ◌≤◌, ◌⊎◌}
-use Rattle.std.proofs.Common.{sym, ap, ◌∙◌, ⊎_elim, le_antisymm, le_of_mul-le-mul_right, mul-le-mul, mul-le-mul_right, mul-le-mul_left, mul-lt-mul_of_pos_right, lt_of_mul-lt-mul_right, le-mul_of_pos_right, arith}
+use Rattle.std.specs.Prelude.{◌≡◌, ℕ, ◌+◌, ◌-◌, ◌*◌, ◌^◌, ◌<◌, ◌≤◌}
+use Rattle.std.proofs.Common.{ap, ⊎_elim, le_antisymm, le_of_mul-le-mul_right, mul-le-mul, mul-le-mul_right, mul-le-mul_left, lt_of_mul-lt-mul_right, arith}
 use mathlib.Core.HLevel.{is_prop→PathP, →_prop, ×_prop}
 use Rattle.std.proofs.Math.Bridge.{le_prop}
 use Rattle.std.proofs.Math.Nat.{ℕ_set, one-le-pow, pow-le-pow_right}
 use Rattle.std.proofs.lemmas.Bool.{cases_lt, cases_order}
 use Rattle.scale.specs.Form.{Form}
-use Rattle.scale.specs.Fractions.{Fraction, ◌≤ᶠ◌, decimal, whole}
+use Rattle.scale.specs.Fractions.{◌≤ᶠ◌, decimal, whole}
 use Rattle.scale.specs.Arithmetic.{OneNumberForEachValue}
 use Rattle.scale.specs.NineFigures.{worth, nine_figures}
 use Rattle.scale.specs.declared.nine_figures.Decimal.{Decimal}

@@ -1,17 +1,17 @@
 -- The nine figures keep the laws of a scale.
-use Rattle.std.specs.Prelude.{◌≡◌, ℕ, zero, suc, ◌+◌, ◌-◌, ◌*◌, ◌/◌, ◌^◌, ◌<◌, ◌≤◌, min, max, Bool, true, false, cond, ◌==◌, ◌≢◌, nat_le, nat_lt, refl}
-use Rattle.std.proofs.Common.{sym, ap, subst, ◌∙◌, ⊎_elim, div-mul-le_self, mul-le-mul_right, mul-le-mul_left, le_of_mul-le-mul_right, add-one, arith}
-use Rattle.std.proofs.Math.Nat.{pow-succ', one-le-pow}
+use Rattle.std.specs.Prelude.{◌≡◌, ℕ, zero, suc, ◌+◌, ◌-◌, ◌*◌, ◌/◌, ◌^◌, ◌<◌, ◌≤◌, ◌==◌, ◌≢◌, nat_le, nat_lt}
+use Rattle.std.proofs.Common.{ap, subst, ⊎_elim, div-mul-le_self, mul-le-mul_right, mul-le-mul_left, add-one, arith}
+use Rattle.std.proofs.Math.Nat.{pow-succ'}
 use Rattle.std.proofs.Math.Arith.{le-zero}
 use Rattle.std.proofs.lemmas.Nat.{le-div}
-use Rattle.std.proofs.lemmas.Bool.{cases_lt, cases_Bool, cond_both, leb-true, leb-false, ltb-true, ltb-false, eqb-true, eqb-false}
+use Rattle.std.proofs.lemmas.Bool.{cases_lt, cond_both, leb-true, leb-false, ltb-true, ltb-false, eqb-true, eqb-false}
 use Rattle.scale.specs.Quotients.{ceil_div}
 use Rattle.scale.specs.Fractions.{Fraction, ◌≤ᶠ◌, decimal, whole}
 use Rattle.scale.specs.NineFigures.{worth, nought, unit, nine, fit, floor, ceiling, nine_rounding, nine_figures}
 use Rattle.scale.specs.Arithmetic.{Down, Up, Rounded}
 use Rattle.scale.specs.declared.nine_figures.Decimal.{Decimal}
 use Rattle.scale.specs.FractionOrder.{◌<ᶠ◌, at-most-trans, at-most-below, below-at-most}
-use Rattle.scale.specs.NineForms.{same-decimal, none_between, one_form, least-number, to_one}
+use Rattle.scale.specs.NineForms.{none_between, least-number, to_one}
 use Rattle.scale.specs.QuotientsLemmas.{floor-next, ceil-above, ceil-before, ceil-least}
 use Rattle.scale.specs.Roundings.{Rounds, rounded_from}
 

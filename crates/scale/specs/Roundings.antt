@@ -1,5 +1,5 @@
 -- Scales that come from rounding every fraction: their arithmetic is right, and each answer is known by its value.
-use Rattle.std.specs.Prelude.{◌≡◌, ◌*◌, ◌<◌, ◌≤◌, true}
+use Rattle.std.specs.Prelude.{◌≡◌, ◌<◌, ◌≤◌}
 use Rattle.std.proofs.Common.{⊎_elim, arith}
 use Rattle.std.proofs.lemmas.Bool.{cases_lt, le-leb, leb-true}
 use Rattle.scale.specs.Fractions.{Fraction, ◌≤ᶠ◌, ◌=ᶠ◌, whole}

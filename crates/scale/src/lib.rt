@@ -1,4 +1,6 @@
 // Scales: sets of chances from 0 to 1 that a computer can hold, with arithmetic rounded down or up.
+#![tactic(auto)]
+
 ghost use Rattle.std.specs.Prelude.{◌≡◌};
 ghost use Rattle.scale.specs.Arithmetic.{Arithmetic, Rounded};
 

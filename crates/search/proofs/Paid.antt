@@ -4,7 +4,7 @@ use lib.Bits.{bit_or}
 use Rattle.std.proofs.lemmas.List.Sums.{sum_by-append, sum_by-set}
 use Rattle.std.proofs.ByRecursion.{sum_by_le}
 use Rattle.std.proofs.lemmas.Bool.{and_parts, not-true, or_left, or_right}
-use Rattle.std.specs.List.{AllByRecursion as All}
+use Rattle.std.specs.List.{AllByRecursion}
 use Rattle.network.specs.Meaning.{Net, Legal}
 use Rattle.sets.specs.Masks.{has}
 use Rattle.sets.proofs.Members.{count-max, count-lt, has-or}
@@ -58,7 +58,7 @@ few r = count-max 32 (has r.barred)
 pub few-each : (rows : List Row) → all_barred rows ≤ length rows * 32
 few-each rows = sum_by_le barred_nodes 32 rows (each rows)
   where
-    each : (rows : List Row) → All (λ r. barred_nodes r ≤ 32) rows
+    each : (rows : List Row) → AllByRecursion (λ r. barred_nodes r ≤ 32) rows
     each [] = tt
     each (r ∷ rows) = (few r, each rows)
 

@@ -4,7 +4,7 @@ use lib.Bits.{bit_or}
 use Rattle.std.proofs.lemmas.Nat.{or_lt}
 use Rattle.std.proofs.lemmas.Bool.{cases_Bool, and_parts, or_cases, or_left, or_right, or_from, not-true, not_from_false, cond_both}
 use Rattle.std.proofs.lemmas.Bool.Decides.{Decides-below_and}
-use Rattle.std.specs.List.{AllByRecursion as All}
+use Rattle.std.specs.List.{AllByRecursion}
 use Rattle.search.specs.declared.row.Row.{Row}
 use Rattle.sets.specs.Masks.{count, has, ◌∈◌, ◌∉◌}
 use Rattle.network.specs.Meaning.{Net, Legal}
@@ -183,9 +183,9 @@ module _ {net : Net} (legal : Legal net) {head door : ℕ} (door_below : door < 
     written-pays = cond_both (writes net door r) (fresh ∷ []) [] (λ rows. length rows ≤ sum_by (λ q. count net.nodes (has q.barred)) rows)
         (λ _. let p = some-barred door_below r g in omega arith) (λ _. omega arith)
 
-    pub written-good : All (Good net head door) (written net door r)
+    pub written-good : AllByRecursion (Good net head door) (written net door r)
     unfolding written
-    written-good = cond_both (writes net door r) (fresh ∷ []) [] (All (Good net head door)) (λ w. (fresh-good w, tt)) (λ _. tt)
+    written-good = cond_both (writes net door r) (fresh ∷ []) [] (AllByRecursion (Good net head door)) (λ w. (fresh-good w, tt)) (λ _. tt)
 
     -- a side that has v belongs to the new row
     with-v : (K : ℕ) → Side net head door K → v ∈ K → sum_by (hit net K) (written net door r) ≡ hit net K r

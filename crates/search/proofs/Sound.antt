@@ -3,7 +3,7 @@ use Rattle.std.proofs.Common.{◌≡◌, ℕ, zero, suc, ◌+◌, ◌-◌, ◌*�
 use Rattle.std.proofs.ByRecursion.{All-get_or, All-append, All-set, All-weaker, sum_by_le}
 use Rattle.std.proofs.lemmas.List.Sums.{sum_by-cons, sum_by-append, sum_by-set, get_or-le-sum_by}
 use Rattle.std.proofs.lemmas.Bool.{cases_Bool, cases_lt, cases_order, cond-true, cond-false, ltb-true, ltb-false, le-ltb}
-use Rattle.std.specs.List.{AllByRecursion as All}
+use Rattle.std.specs.List.{AllByRecursion}
 use Rattle.search.specs.declared.row.Row.{Row}
 use Rattle.search.specs.declared.status.Status.{Status}
 use Rattle.search.specs.declared.status.Status.TheVariants.{Finished, Full, More}
@@ -91,7 +91,7 @@ abbrev pub barred_count : Net → Row → ℕ
 barred_count net r = count net.nodes (has r.barred)
 
 pub record Inv (net : Net) (head door : ℕ) (s : Search) : Type 0 where
-  pub good : All (Good net head door) s.rows
+  pub good : AllByRecursion (Good net head door) s.rows
   -- each side belongs to exactly one row
   pub once : (K : ℕ) → Side net head door K → sum_by (hit net K) s.rows ≡ 1
   -- each try has barred a node
@@ -208,7 +208,7 @@ module _ {net : Net} {head door : ℕ} (legal : Legal net) (aim : Aim net head d
               )
         ]
 
-    few : All (λ r. barred_count net r ≤ net.nodes - 1) s.rows
+    few : AllByRecursion (λ r. barred_count net r ≤ net.nodes - 1) s.rows
     few = All-weaker (Good net head door) (λ r. barred_count net r ≤ net.nodes - 1)
         (λ r g. let p = count-lt net.nodes (has r.barred) (λ _. true) (λ _ _ _. refl) head aim.head_below (g.clear head g.side.head_in) refl in
         let q = count-max net.nodes (λ _. true) in omega arith) s.rows v.good

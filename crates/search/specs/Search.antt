@@ -1,5 +1,5 @@
 -- The search for minimal cuts: closures, rows, tries and runs of tries.
-use Rattle.std.specs.Prelude.{ℕ, zero, suc, ◌+◌, Bool, cond, not, ◌&&◌, ◌||◌, List, [], ◌∷◌, ◌++◌, length, set, ◌==◌, bit_or, nat_eq, nat_le, nat_lt, slice_index_or, slice_set}
+use Rattle.std.specs.Prelude.{ℕ, zero, suc, ◌+◌, Bool, cond, not, ◌&&◌, ◌||◌, List, [], ◌∷◌, ◌++◌, length, ◌==◌, bit_or, nat_eq, nat_le, nat_lt, slice_index_or, slice_set}
 use Rattle.network.specs.declared.branch.Branch.{Branch}
 use Rattle.network.specs.Meaning.{Net}
 use Rattle.sets.specs.Masks.{has, collect, any, least}

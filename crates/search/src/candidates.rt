@@ -1,6 +1,6 @@
 // The candidates of a row.
 ghost use Rattle.std.specs.Prelude.{◌≡◌};
-ghost use Rattle.sets.specs.Masks.{collect, lowest as lowestBelow};
+ghost use Rattle.sets.specs.Masks.{collect, lowest as lowest_below};
 ghost use Rattle.search.specs.Search.{candidate};
 
 use crate::reach::{Over, touching};
@@ -9,14 +9,14 @@ use network::traits::Network;
 use sets::node_set::{difference, lowest};
 
 fn candidates_of<N: Network>(network: &N, row: Row) -> u32
-    ensures { result ≡ collect (net network.now).nodes (candidate (net network.now) row) }
+    ensures { result ≡ collect (N.net network.now).nodes (candidate (N.net network.now) row) }
 {
     let touched = touching(network, Over::Present, row.inside);
     difference(difference(touched, row.inside), row.barred)
 }
 
 pub(crate) fn lowest_candidate<N: Network>(network: &N, row: Row) -> Option<u32>
-    ensures { result ≡ lowestBelow (net network.now).nodes (candidate (net network.now) row) }
+    ensures { result ≡ lowest_below (N.net network.now).nodes (candidate (N.net network.now) row) }
 {
     lowest(candidates_of(network, row))
 }

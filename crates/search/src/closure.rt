@@ -8,21 +8,21 @@ use sets::node_set::{below, contains, difference, single};
 
 // The set with every node reached from it over working branches.
 fn held_by<N: Network>(network: &N, set: u32) -> u32
-    ensures { result ≡ held (net network.now) set }
+    ensures { result ≡ held (N.net network.now) set }
 {
     reach(network, Over::Sure, 0, set)
 }
 
 // The nodes with a chain to the door that avoids the set.
 fn outside_of<N: Network>(network: &N, door: u32, set: u32) -> u32
-    ensures { result ≡ outside (net network.now) door set }
+    ensures { result ≡ outside (N.net network.now) door set }
 {
     reach(network, Over::Present, set, single(door))
 }
 
 // Every node without a chain to the door that avoids what the set holds; all nodes where it holds the door.
 pub(crate) fn closure_of<N: Network>(network: &N, door: u32, set: u32) -> u32
-    ensures { result ≡ closure (net network.now) door set }
+    ensures { result ≡ closure (N.net network.now) door set }
 {
     let all = below(network.nodes());
     let kept = held_by(network, set);

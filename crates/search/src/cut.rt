@@ -25,7 +25,7 @@ fn is_parted(inside: u32, b: Branch) -> bool
 
 // The branches able to fail with exactly one end inside.
 pub fn branch_set_of<N: Network>(network: &N, row: Row) -> u64
-    ensures { result ≡ branch_set (net network.now) row }
+    ensures { result ≡ branch_set (N.net network.now) row }
 {
     let mut set = 0;
     for k in 0..network.branches() {
@@ -40,7 +40,7 @@ pub fn branch_set_of<N: Network>(network: &N, row: Row) -> u64
 
 // The nodes not inside.
 pub fn node_vector_of<N: Network>(network: &N, row: Row) -> u32
-    ensures { result ≡ node_vector (net network.now) row }
+    ensures { result ≡ node_vector (N.net network.now) row }
 {
     difference(below(network.nodes()), row.inside)
 }

@@ -1,4 +1,6 @@
 // The search for the minimal cuts of a door, over any network.
+#![tactic(auto)]
+
 mod candidates;
 mod closure;
 pub mod cut;

@@ -42,8 +42,8 @@ impl Next {
 
 // The first row that has a candidate, where none of the first rows has one.
 fn current_row<N: Network>(table: &Table, network: &N, first: usize) -> usize
-    requires { Shut (net network.now) (rows_of table.now) first }
-    ensures { result ≡ current (net network.now) (rows_of table.now) }
+    requires { Shut (N.net network.now) (rows_of table.now) first }
+    ensures { result ≡ current (N.net network.now) (rows_of table.now) }
 {
     for k in first..table.len() {
         if let Some(row) = table.row(k) {
@@ -68,7 +68,7 @@ fn clear_row(inside: u32, barred: u32) -> Option<Row>
 
 // The row that a try of the node writes: the closure of the inside set with it, and the barred set as it was.
 fn row_by<N: Network>(network: &N, door: u32, row: Row, node: u32) -> Option<Row>
-    ensures { result ≡ row_by (net network.now) door row node }
+    ensures { result ≡ row_by (N.net network.now) door row node }
 {
     clear_row(
         closure_of(network, door, row.inside | single(node)),
@@ -85,8 +85,8 @@ fn lacks_room(table: &Table, written: Option<Row>) -> bool
 
 // The next try, where the first rows have no candidate.
 pub(crate) fn next_try<N: Network>(table: &Table, network: &N, door: u32, first: usize) -> Next
-    requires { Shut (net network.now) (rows_of table.now) first }
-    ensures { result ≡ planned (net network.now) door (rows_of table.now) }
+    requires { Shut (N.net network.now) (rows_of table.now) first }
+    ensures { result ≡ planned (N.net network.now) door (rows_of table.now) }
 {
     let k = current_row(table, network, first);
     let Some(row) = table.row(k) else {

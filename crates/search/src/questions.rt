@@ -12,28 +12,28 @@ use sets::node_set::{contains, single};
 
 // Whether the branches that may be used join two nodes.
 fn has_chain<N: Network>(network: &N, over: Over, head: u32, door: u32) -> bool
-    ensures { result ≡ linked (net network.now) (kept over (net network.now)) head door }
+    ensures { result ≡ linked (N.net network.now) (kept over (N.net network.now)) head door }
 {
     contains(reach(network, over, 0, single(head)), door)
 }
 
 // Is the door joined to the head?
 pub fn is_joined<N: Network>(network: &N, head: u32, door: u32) -> bool
-    ensures { result ≡ linked (net network.now) (present (net network.now)) head door }
+    ensures { result ≡ linked (N.net network.now) (present (N.net network.now)) head door }
 {
     has_chain(network, Over::Present, head, door)
 }
 
 // Would they still be joined if every branch able to fail had failed?
 pub fn is_held<N: Network>(network: &N, head: u32, door: u32) -> bool
-    ensures { result ≡ linked (net network.now) (sure (net network.now)) head door }
+    ensures { result ≡ linked (N.net network.now) (sure (N.net network.now)) head door }
 {
     has_chain(network, Over::Sure, head, door)
 }
 
 // Row 0 of a search.
 pub fn first_row<N: Network>(network: &N, head: u32, door: u32) -> Row
-    ensures { result ≡ first_row (net network.now) head door }
+    ensures { result ≡ first_row (N.net network.now) head door }
 {
     Row {
         inside: closure_of(network, door, single(head)),

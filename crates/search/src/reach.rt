@@ -41,7 +41,7 @@ fn joined_by(b: Branch, set: u32, others: u32) -> u32
 
 // The nodes that a branch joins to a member of the set.
 pub(crate) fn touching<N: Network>(network: &N, over: Over, set: u32) -> u32
-    ensures { result ≡ collect (net network.now).nodes (touches (net network.now) (kept over (net network.now)) set) }
+    ensures { result ≡ collect (N.net network.now).nodes (touches (N.net network.now) (kept over (N.net network.now)) set) }
 {
     let mut met = 0;
     for k in 0..network.branches() {
@@ -56,7 +56,7 @@ pub(crate) fn touching<N: Network>(network: &N, over: Over, set: u32) -> u32
 
 // The set with what it touches.
 fn widen<N: Network>(network: &N, over: Over, avoid: u32, set: u32) -> u32
-    ensures { result ≡ widened (net network.now).nodes (avoiding over (net network.now) avoid) set }
+    ensures { result ≡ widened (N.net network.now).nodes (avoiding over (N.net network.now) avoid) set }
 {
     let near = difference(touching(network, over, set), avoid);
     (set | near) & below(network.nodes())
@@ -64,7 +64,7 @@ fn widen<N: Network>(network: &N, over: Over, avoid: u32, set: u32) -> u32
 
 // The nodes reached from the start by way of nodes that are not to be avoided.
 pub(crate) fn reach<N: Network>(network: &N, over: Over, avoid: u32, start: u32) -> u32
-    ensures { result ≡ spread (net network.now).nodes (avoiding over (net network.now) avoid) (net network.now).nodes start }
+    ensures { result ≡ spread (N.net network.now).nodes (avoiding over (N.net network.now) avoid) (N.net network.now).nodes start }
 {
     let mut set = start;
     for _ in 0..network.nodes() {

@@ -40,7 +40,7 @@ fn make(table: &mut Table, t: Try)
 
 // Makes tries until the budget is spent or none can be made, and answers how many.
 pub fn run_tries<N: Network>(table: &mut Table, network: &N, door: u32, budget: u32) -> u32
-    ensures { (t : ℕ) → searched (rows_of table.new) (t + result) ≡ run (net network.now) door budget (searched (rows_of table.old) t) }
+    ensures { (t : ℕ) → searched (rows_of table.new) (t + result) ≡ run (N.net network.now) door budget (searched (rows_of table.old) t) }
 {
     let mut progress = Progress { tries: 0, first: 0 };
     for _ in 0..budget {
@@ -55,7 +55,7 @@ pub fn run_tries<N: Network>(table: &mut Table, network: &N, door: u32, budget: 
 
 // How the search stands.
 pub fn status_of<N: Network>(table: &Table, network: &N, door: u32) -> Status
-    ensures { result ≡ status (net network.now) door (rows_of table.now) }
+    ensures { result ≡ status (N.net network.now) door (rows_of table.now) }
 {
     next_try(table, network, door, 0).status()
 }

@@ -1,13 +1,11 @@
 -- Members of the sets that the code makes.
-use Rattle.std.proofs.Common.{◌≡◌, ℕ, zero, suc, ◌+◌, ◌-◌, ◌*◌, ◌/◌, ◌%◌, ◌^◌, ◌<◌, ◌≤◌, Bool, true, false, not, ◌&&◌, ◌||◌, eqb, ltb, ◌⊎◌, sym, refl, ap, ◌∙◌, ap₂, inl, inr, arith}
-use lib.Bits.{bit_and, bit_or, and_lt}
-use lib.Count.{count_trailing_zeros, under}
+use Rattle.std.proofs.Common.{◌≡◌, ℕ, zero, suc, ◌-◌, ◌/◌, ◌%◌, ◌^◌, ◌<◌, ◌≤◌, Bool, not, ◌&&◌, ltb, sym, ap, ◌∙◌, inl, inr, arith}
+use lib.Bits.{bit_and, and_lt}
 use Rattle.std.proofs.lemmas.Nat.{pow_pos, pow_below}
-use Rattle.std.proofs.lemmas.Bool.{cases_Bool, cases_lt, lt-ltb, le-ltb, eq-eqb, ne_eqb}
+use Rattle.std.proofs.lemmas.Bool.{cases_lt, lt-ltb, le-ltb, eq-eqb}
 use Rattle.std.proofs.lemmas.Bool.Decides.{nat_tests}
-use Rattle.sets.specs.Masks.{has, collect, least, ◌∈◌, ◌∉◌}
-use Rattle.sets.proofs.Members.{clash, refuted, has-zero, has-suc, has-none, has-collect, collect-small, same-mask, below-mask, has-and, has-or, has-single, Least}
-use Rattle.sets.proofs.Shifts.{least-unique}
+use Rattle.sets.specs.Masks.{has, collect, ◌∉◌}
+use Rattle.sets.proofs.Members.{refuted, has-zero, has-suc, has-none, has-collect, collect-small, same-mask, below-mask, has-and}
 
 -- the complement among the first k numbers, which `!` gives
 pub has-not : (k b v : ℕ) → b < 2 ^ k → v < k → has (2 ^ k - 1 - b) v ≡ not (has b v)

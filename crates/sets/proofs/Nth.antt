@@ -1,9 +1,9 @@
 -- What stands at a place of a list, as an Option.
 use Rattle.std.proofs.Common.{◌≡◌, ℕ, zero, suc, ◌+◌, ◌-◌, ◌<◌, ◌≤◌, List, [], ◌∷◌, ◌++◌, map, length, get_or, take, drop, replicate, IfSome, Some, None, fold, Option, sym, refl, ap, ◌∙◌, subst, suc-add, arith}
-use Rattle.std.specs.List.{slice_get, range_with_len, AllByRecursion as All}
+use Rattle.std.specs.List.{slice_get, range_with_len, AllByRecursion}
 use Rattle.std.specs.Option.{option_map}
 use Rattle.std.proofs.lemmas.List.FromFn.{length-map-range_with_len, get_or-map-range_with_len}
-use Rattle.std.proofs.lemmas.List.{get_or-replicate, length-replicate, get_or_append_left, get_or-append_right, length-append}
+use Rattle.std.proofs.lemmas.List.{get_or-replicate, length-replicate}
 use Rattle.std.proofs.lemmas.List.Sums.{fold_push}
 use Rattle.std.proofs.lemmas.Option.{slice_get-get_or, slice_get_past}
 
@@ -46,7 +46,7 @@ pub nth-replicate-past : {X : Type 0} (n k : ℕ) (x : X) → n ≤ k → slice_
 nth-replicate-past n k x h = slice_get_past (replicate n x) k (rw length-replicate h)
 
 -- what holds of each element holds of the one at k
-pub all-nth : {X : Type 0} (P : X → Type 0) (xs : List X) (k : ℕ) (x : X) → All P xs → slice_get xs k ≡ Some x → P x
+pub all-nth : {X : Type 0} (P : X → Type 0) (xs : List X) (k : ℕ) (x : X) → AllByRecursion P xs → slice_get xs k ≡ Some x → P x
 all-nth P [] k x h e = absurd (let z : ◌≡◌ {A = ℕ} 0 1 = cc in omega arith)
 all-nth P (y ∷ ys) zero x h e = let z : y ≡ x = cc in subst P z h.0
 all-nth P (y ∷ ys) (suc k) x h e = all-nth P ys k x h.1 e
@@ -68,7 +68,7 @@ drop_nth [] k x e = absurd (let z : ◌≡◌ {A = ℕ} 0 1 = cc in omega arith)
 drop_nth (y ∷ ys) zero x e = let z : y ≡ x = cc in ap (λ w. w ∷ ys) z
 drop_nth (y ∷ ys) (suc k) x e = simp suc-add (drop_nth ys k x e)
 
-pub cases-nth : {X : Type 0} (P : X → Type 0) (xs : List X) (k : ℕ) (o : Option X) → o ≡ slice_get xs k → All P xs → IfSome o P
+pub cases-nth : {X : Type 0} (P : X → Type 0) (xs : List X) (k : ℕ) (o : Option X) → o ≡ slice_get xs k → AllByRecursion P xs → IfSome o P
 cases-nth P xs k None e h = tt
 cases-nth P xs k (Some x) e h = all-nth P xs k x h (sym e)
 

@@ -1,12 +1,12 @@
 -- What the operations on a mask of k bits give, for every width k.
-use Rattle.std.proofs.Common.{◌≡◌, ℕ, zero, suc, ◌+◌, ◌-◌, ◌*◌, ◌/◌, ◌%◌, ◌^◌, ◌<◌, ◌≤◌, Bool, true, false, cond, not, ◌&&◌, eqb, ltb, ◌⊎◌, Some, None, Decides, sym, refl, ap, ◌∙◌, inl, inr, mod-eq_of_lt, arith}
+use Rattle.std.proofs.Common.{◌≡◌, ℕ, zero, suc, ◌-◌, ◌*◌, ◌/◌, ◌%◌, ◌^◌, ◌<◌, ◌≤◌, Bool, false, not, ◌&&◌, eqb, ltb, Some, None, sym, refl, ap, ◌∙◌, inl, inr, mod-eq_of_lt, arith}
 use lib.Bits.{bit_and, and_lt}
 use lib.Count.{count_trailing_zeros, under}
 use Rattle.std.proofs.lemmas.Nat.{pow_below, pow_pos}
-use Rattle.std.proofs.lemmas.Bool.{cases_Bool, cases_lt, lt-ltb, le-ltb, eq-eqb, ne_eqb, eqb-true, cond-true, cond-false, and_parts, and_from}
+use Rattle.std.proofs.lemmas.Bool.{cases_Bool, cases_lt, lt-ltb, le-ltb, eq-eqb, ne_eqb, cond-true, cond-false}
 use Rattle.sets.specs.Masks.{has, collect, any, least, lowest, ◌∈◌, ◌∉◌}
-use Rattle.sets.proofs.Members.{clash, refuted, certain, has-zero, has-suc, has-none, has-collect, collect-small, same-mask, below-mask, has-and, has-single, decides-any, least-is}
-use Rattle.sets.proofs.Shifts.{has-shift, least-unique}
+use Rattle.sets.proofs.Members.{clash, refuted, has-zero, has-suc, has-none, same-mask, below-mask, has-and, has-single, decides-any, least-is}
+use Rattle.sets.proofs.Shifts.{least-unique}
 use Rattle.sets.proofs.Collected.{has_first, is-collect, within-mask}
 
 -- `1 << v`, and no member where v is no number of k bits

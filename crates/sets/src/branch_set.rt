@@ -1,6 +1,6 @@
 // Sets of branches: bit k of a `u64` says whether branch k is a member.
 ghost use Rattle.std.specs.Prelude.{◌≡◌, not, ◌&&◌, nat_eq, nat_lt};
-ghost use Rattle.sets.specs.Masks.{has, collect, any, lowest as lowestBelow};
+ghost use Rattle.sets.specs.Masks.{has, collect, any, lowest as lowest_below};
 
 // Whether the branch is a member.
 pub fn contains(set: u64, branch: u32) -> bool
@@ -43,7 +43,7 @@ pub fn meet(a: u64, b: u64) -> bool
 
 // The member of the lowest number.
 pub fn lowest(set: u64) -> Option<u32>
-    ensures { result ≡ lowestBelow 64 (has set) }
+    ensures { result ≡ lowest_below 64 (has set) }
 {
     if set == 0 {
         None

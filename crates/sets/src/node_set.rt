@@ -1,6 +1,6 @@
 // Sets of nodes: bit v of a `u32` says whether node v is a member.
 ghost use Rattle.std.specs.Prelude.{◌≡◌, not, ◌&&◌, nat_eq, nat_lt};
-ghost use Rattle.sets.specs.Masks.{has, collect, any, lowest as lowestBelow};
+ghost use Rattle.sets.specs.Masks.{has, collect, any, lowest as lowest_below};
 
 // Whether the node is a member.
 pub fn contains(set: u32, node: u32) -> bool
@@ -43,7 +43,7 @@ pub fn meet(a: u32, b: u32) -> bool
 
 // The member of the lowest number.
 pub fn lowest(set: u32) -> Option<u32>
-    ensures { result ≡ lowestBelow 32 (has set) }
+    ensures { result ≡ lowest_below 32 (has set) }
 {
     if set == 0 {
         None

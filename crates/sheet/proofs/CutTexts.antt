@@ -1,5 +1,5 @@
 -- The members of a set, one after another.
-use Rattle.std.proofs.Common.{◌≡◌, ℕ, suc, ◌+◌, Bool, true, false, cond, List, [], ◌∷◌, ◌++◌, decimal, sym, refl, ap, ◌∙◌, append_assoc, append-nil, add-one}
+use Rattle.std.proofs.Common.{◌≡◌, ℕ, ◌+◌, Bool, true, false, cond, List, [], ◌∷◌, ◌++◌, decimal, sym, refl, ap, ◌∙◌, append_assoc, append-nil, add-one}
 use Rattle.sets.specs.Masks.{has}
 use Rattle.cut_line.specs.Cuts.{members_below, spaced}
 use Rattle.sheet.proofs.Lines.{then-more}

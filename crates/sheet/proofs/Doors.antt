@@ -1,5 +1,5 @@
 -- The sheet of a door whose aim was accepted.
-use Rattle.std.proofs.Common.{◌≡◌, ℕ, List, ◌∷◌, ◌++◌, Some, None, Ok, Err, sym, refl, ap, ◌∙◌, append_assoc, arith}
+use Rattle.std.proofs.Common.{◌≡◌, ℕ, List, ◌∷◌, ◌++◌, None, Ok, Err, sym, refl, ap, ◌∙◌, append_assoc, arith}
 use Rattle.refusals.specs.declared.study_fault.StudyFault.{StudyFault}
 use Rattle.network.specs.declared.rating.Rating.{Rating}
 use Rattle.network.specs.Meaning.{Net}
@@ -7,7 +7,7 @@ use Rattle.network.specs.Questions.{Answer}
 use Rattle.scale.specs.Arithmetic.{Arithmetic}
 use Rattle.engine.specs.declared.call.Answer.TheVariants as answered
 use Rattle.engine.specs.Questions.{door_asked}
-use Rattle.engine.specs.Studies.{State, no_state, set_up, set_up_by, set_up_answer, aim_asked, aim_answer}
+use Rattle.engine.specs.Studies.{no_state, set_up, set_up_by, set_up_answer, aim_asked, aim_answer}
 use Rattle.engine.specs.Runs.{after, answers}
 use Rattle.sheet.specs.Sheets.{refused_line, study_text, door_calls, aim_fault, first_fault, door_text, door_texts}
 

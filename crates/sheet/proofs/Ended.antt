@@ -1,10 +1,8 @@
 -- Two advances of 10,000 tries end every search.
-use Rattle.std.proofs.Common.{◌≡◌, ℕ, zero, suc, ◌+◌, ◌≤◌, Bool, true, false, cond, ◌&&◌, ltb, leb, ◌⊎◌, List, [], ◌∷◌, ◌++◌, length, set, Some, None, Ok, Err, sym, refl, ap, ◌∙◌, subst, inl, inr, zero-add, arith, length-set}
+use Rattle.std.proofs.Common.{◌≡◌, ℕ, zero, suc, ◌+◌, ◌≤◌, Bool, true, false, cond, ◌&&◌, ltb, leb, List, [], ◌∷◌, length, set, Ok, sym, refl, ap, ◌∙◌, subst, inl, inr, zero-add, arith, length-set}
 use Rattle.std.proofs.lemmas.List.{length-append}
 use Rattle.std.proofs.lemmas.Bool.{cases_Bool, true≢false, leb-false}
-use Rattle.refusals.specs.declared.study_fault.StudyFault.{StudyFault}
-use Rattle.network.specs.Meaning.{Net, Legal}
-use Rattle.network.specs.Questions.{Answer}
+use Rattle.network.specs.Meaning.{Net}
 use Rattle.search.specs.Search.{Search, searched, aimed, run, status, tried, written, writes, grown, barring, current, row_at, next}
 use Rattle.search.specs.declared.status.Status.TheVariants.{Finished, Full, More}
 use Rattle.search.specs.declared.row.Row.{Row}
@@ -12,9 +10,9 @@ use Rattle.search.proofs.Portions.{run-adds}
 use Rattle.search.proofs.Sound.{by-status}
 use Rattle.search.proofs.Paid.{ended-after}
 use Rattle.engine.specs.Questions.{door_asked}
-use Rattle.engine.specs.Studies.{State, no_state, set_up, set_up_by, set_up_answer, called, aim_from, aimed_by}
+use Rattle.engine.specs.Studies.{set_up_answer}
 use Rattle.engine.specs.Runs.{after}
-use Rattle.sheet.specs.Sheets.{door_calls, Ended, TwoAdvancesEnd}
+use Rattle.sheet.specs.Sheets.{door_calls, TwoAdvancesEnd}
 
 -- the study after an accepted aim and two advances
 abbrev end : Net → ℕ → ℕ → Search

@@ -1,5 +1,5 @@
 -- One CUT line after another.
-use Rattle.std.proofs.Common.{◌≡◌, ℕ, suc, ◌+◌, List, ◌++◌, sym, append-nil, add-one}
+use Rattle.std.proofs.Common.{◌≡◌, ℕ, ◌+◌, List, ◌++◌, sym, append-nil, add-one}
 use Rattle.network.specs.Meaning.{Net}
 use Rattle.engine.specs.Studies.{State, show_answer}
 use Rattle.sheet.specs.Sheets.{shown_line, cut_lines}

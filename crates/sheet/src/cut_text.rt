@@ -9,7 +9,8 @@ use std::fmt::Write;
 fn write_number(text: &mut String, n: u32) -> fmt::Result
     ensures { OnOk result (string_bytes text.new ≡ string_bytes text.old ++ spaced (n ∷ [])) }
 {
-    write!(text, " {n}")
+    write!(text, " {n}")?;
+    Ok(())
 }
 
 // The members below a limit, rising, each after a space.
@@ -28,7 +29,8 @@ fn write_members(text: &mut String, members: u64, limit: u32) -> fmt::Result
 pub(crate) fn write_word(text: &mut String, word: &str) -> fmt::Result
     ensures { OnOk result (string_bytes text.new ≡ string_bytes text.old ++ word.now) }
 {
-    write!(text, "{word}")
+    write!(text, "{word}")?;
+    Ok(())
 }
 
 // The CUT line of a branch set and a node vector.

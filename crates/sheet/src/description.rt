@@ -19,7 +19,8 @@ use std::fmt::Write;
 fn write_door(text: &mut String, door: u32) -> fmt::Result
     ensures { OnOk result (string_bytes text.new ≡ string_bytes text.old ++ door_line door) }
 {
-    write!(text, "DOOR {door}\n")
+    write!(text, "DOOR {door}\n")?;
+    Ok(())
 }
 
 // A line for each door of a deck.
@@ -36,7 +37,8 @@ fn write_doors(text: &mut String, bytes: &[u8]) -> fmt::Result
 pub(crate) fn write_refusal(text: &mut String, refusal: DeckRefusal) -> fmt::Result
     ensures { OnOk result (string_bytes text.new ≡ string_bytes text.old ++ refusal_line refusal) }
 {
-    write!(text, "{refusal}\n")
+    write!(text, "{refusal}\n")?;
+    Ok(())
 }
 
 // An accepted deck. A list takes its rows, since the deck was asked the same questions.

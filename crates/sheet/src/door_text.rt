@@ -22,7 +22,8 @@ pub fn write_refused(text: &mut String, door: u32, fault: StudyFault) -> fmt::Re
     ensures { OnOk result (string_bytes text.new ≡ string_bytes text.old ++ refused_line door fault) }
 {
     let number = fault.refusal().number;
-    write!(text, "DOOR {door} REFUSED {number}\n")
+    write!(text, "DOOR {door} REFUSED {number}\n")?;
+    Ok(())
 }
 
 fn status_word(status: Status) -> &'static str
@@ -50,7 +51,8 @@ fn write_standing<N: Network>(
     let rows = standing.rows;
     let tries = standing.tries;
     let status = status_word(standing.status);
-    write!(text, "DOOR {door} CUTS {rows} TRIES {tries} {status}\n")
+    write!(text, "DOOR {door} CUTS {rows} TRIES {tries} {status}\n")?;
+    Ok(())
 }
 
 // The line of row k, where it is shown.
@@ -89,7 +91,8 @@ fn write_low<N: RatedNetwork>(text: &mut String, study: &Study, network: &N) -> 
     };
     let low = bounds.low;
     let high = bounds.high;
-    write!(text, "LOW {low} HIGH {high}\n")
+    write!(text, "LOW {low} HIGH {high}\n")?;
+    Ok(())
 }
 
 // The bounds in nine figures.
@@ -103,7 +106,8 @@ fn write_fine<N: RatedNetwork>(text: &mut String, study: &Study, network: &N) ->
     };
     let low = bounds.low;
     let high = bounds.high;
-    write!(text, "FINE {low} {high}\n")
+    write!(text, "FINE {low} {high}\n")?;
+    Ok(())
 }
 
 // How the search stands, its cuts, and its bounds in both scales.

@@ -1,4 +1,6 @@
 // What the programs print, as text whose bytes the contracts give.
+#![tactic(auto)]
+
 pub mod cut_text;
 pub mod description;
 pub mod door_text;

@@ -10,7 +10,8 @@ use std::fmt::Write;
 fn write_headline(text: &mut String, nodes: u32, head: u32, branches: u32) -> fmt::Result
     ensures { OnOk result (string_bytes text.new ≡ string_bytes text.old ++ headline nodes head branches) }
 {
-    write!(text, "NODES {nodes} HEAD {head} BRANCHES {branches}\n")
+    write!(text, "NODES {nodes} HEAD {head} BRANCHES {branches}\n")?;
+    Ok(())
 }
 
 // The line of branch k, where there is one.
@@ -25,7 +26,8 @@ fn write_branch_at<N: RatedNetwork>(text: &mut String, network: &N, k: u32) -> f
     let Some(rating) = network.rating(k) else {
         return Ok(());
     };
-    write!(text, "BRANCH {k} {branch} {rating}\n")
+    write!(text, "BRANCH {k} {branch} {rating}\n")?;
+    Ok(())
 }
 
 fn write_branches<N: RatedNetwork>(text: &mut String, network: &N) -> fmt::Result

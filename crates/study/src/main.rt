@@ -1,4 +1,6 @@
 // Reads a deck from standard input, studies each of its doors, and prints the sheet.
+#![tactic(auto)]
+
 use sheet::study_sheet::sheet_of;
 use std::io::Read;
 

@@ -5,8 +5,8 @@ use Rattle.std.proofs.lemmas.Bool.{cond_both, cond-true, cond-false, le-leb, lt-
 use Rattle.network.specs.declared.rating.Rating.{Rating}
 use Rattle.scale.specs.Fractions.{Fraction, whole, ◌≤ᶠ◌, ◌×ᶠ◌}
 use Rattle.scale.specs.Arithmetic.{Down, Up, Rounded, chance}
-use Rattle.scale.specs.Roundings.{Rounds, rounded_from}
-use Rattle.two_values.specs.TwoValues.{worth, floor, ceiling, two_rounding, two_values}
+use Rattle.scale.specs.Roundings.{rounded_from}
+use Rattle.two_values.specs.TwoValues.{worth, floor, ceiling, two_values}
 use Rattle.two_values.specs.declared.extreme.Extreme.{Extreme}
 use Rattle.two_values.specs.declared.extreme.Extreme.TheVariants.{Never, Surely}
 

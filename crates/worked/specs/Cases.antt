@@ -1,5 +1,5 @@
 -- Cases worked by hand: what the definitions give for ten small studies, each with node 0 as its head.
-use Rattle.std.specs.Prelude.{◌≡◌, ℕ, ◌*◌, Bool, true, false, not, List, [], ◌∷◌, map, replicate, Ok, Err}
+use Rattle.std.specs.Prelude.{◌≡◌, ℕ, ◌*◌, Bool, true, false, not, List, [], ◌∷◌, map, Ok, Err}
 use Rattle.std.proofs.Common.{arith}
 use Rattle.refusals.specs.declared.study_fault.StudyFault.TheVariants.{Door, DoorIsHead, Unjoined, Inseparable}
 use Rattle.network.specs.declared.branch.Branch.{Branch}
@@ -7,7 +7,6 @@ use Rattle.network.specs.declared.branch.Condition.{Condition}
 use Rattle.network.specs.declared.branch.Condition.TheVariants.{Able, Failed, Working}
 use Rattle.network.specs.declared.rating.Rating.{Rating}
 use Rattle.network.specs.Meaning.{Net, RatedNet}
-use Rattle.network.specs.Ratings.{rating_from}
 use Rattle.search.specs.Cuts.{without}
 use Rattle.search.specs.Search.{linked}
 use Rattle.search.specs.Cases.{joining, network, bridge, shown, finds, set_of, Worked}

@@ -8,4 +8,4 @@ returns c =
     let bs = c.args.bytes.now in
     let out = c.args.out.now in
     let n : at + length bs - at ≡ length bs = omega arith in
-    record { place = refl; bytes = rw (n, c.copy-from-slice.ensures.after) (ap (λ t. take at out ++ (bs ++ t)) (drop-drop (length bs) at out)) }
+    record { place = refl; bytes = rw (n, c.copy_from_slice.ensures.after) (ap (λ t. take at out ++ (bs ++ t)) (drop-drop (length bs) at out)) }

@@ -13,6 +13,6 @@ loop-k-preserved c =
     elim c.if-contains.branch [
       | then-contains w ↦
           below_in c.args.at c.args.members c.loop-k.k _ _ _ _ _ c.loop-k.invariant (omega arith) (omega (arith, c.requires.room)) (sym number ∙ sym w.if-contains.ensures)
-          (w.end-is ∙ w.put-number-end.ensures.place) (w.out-is ∙ w.put-number-end.ensures.bytes)
+          (w.end-is ∙ w.put_number-end.ensures.place) (w.out-is ∙ w.put_number-end.ensures.bytes)
       | else-contains w ↦ rw (w.end-is, w.out-is) (below_out c.args.at c.args.members c.loop-k.k _ _ _ c.loop-k.invariant (sym number ∙ sym w.if-contains.ensures))
     ]

@@ -33,10 +33,10 @@ impl Study {
 
     // Takes the head, and leaves no aim.
     pub fn set_up<N: Network>(&mut self, network: &N, head: u32) -> Result<(), StudyFault>
-        ensures answer { result ≡ set_up_answer (net network.now) head }
-        ensures state { state_of self.new ≡ set_up (net network.now) head (state_of self.old) }
+        ensures answer { result ≡ set_up_answer (N.net network.now) head }
+        ensures state { state_of self.new ≡ set_up (N.net network.now) head (state_of self.old) }
         ensures kept { Kept result self.old self.new }
-        ensures forgets { Forgets (net network.now) head result (state_of self.new) }
+        ensures forgets { Forgets (N.net network.now) head result (state_of self.new) }
     {
         check_head(network.nodes(), head)?;
         self.head = Some(head);
@@ -48,8 +48,8 @@ impl Study {
 
     // Takes the door, and writes row 0 of its search.
     pub fn aim<N: Network>(&mut self, network: &N, door: u32) -> Result<(), StudyFault>
-        ensures answer { result ≡ aim_answer (net network.now) door (state_of self.old) }
-        ensures state { state_of self.new ≡ called (net network.now) (state_of self.old) (Aim door) }
+        ensures answer { result ≡ aim_answer (N.net network.now) door (state_of self.old) }
+        ensures state { state_of self.new ≡ called (N.net network.now) (state_of self.old) (Aim door) }
         ensures kept { Kept result self.old self.new }
     {
         let Some(head) = self.head else {
@@ -64,8 +64,8 @@ impl Study {
 
     // Makes tries for the door until the budget is spent or none can be made.
     fn try_up_to<N: Network>(&mut self, network: &N, door: u32, budget: u32) -> Progress
-        ensures answer { result ≡ progress (net network.now) door budget (state_of self.old).search }
-        ensures state { state_of self.new ≡ advanced_by (net network.now) door budget (state_of self.old) }
+        ensures answer { result ≡ progress (N.net network.now) door budget (state_of self.old).search }
+        ensures state { state_of self.new ≡ advanced_by (N.net network.now) door budget (state_of self.old) }
     {
         let tries = run_tries(&mut self.table, network, door, budget);
         self.tries += tries;
@@ -78,8 +78,8 @@ impl Study {
 
     // Makes at most so many tries, and answers how far the search has come.
     pub fn advance<N: Network>(&mut self, network: &N, budget: u32) -> Result<Progress, StudyFault>
-        ensures answer { result ≡ advance_answer (net network.now) budget (state_of self.old) }
-        ensures state { state_of self.new ≡ called (net network.now) (state_of self.old) (Advance budget) }
+        ensures answer { result ≡ advance_answer (N.net network.now) budget (state_of self.old) }
+        ensures state { state_of self.new ≡ called (N.net network.now) (state_of self.old) (Advance budget) }
         ensures kept { Kept result self.old self.new }
     {
         let Some(door) = self.door else {
@@ -98,7 +98,7 @@ impl Study {
 
     // How the search stands: the tries since the aim, the rows, and the status.
     pub fn standing<N: Network>(&self, network: &N) -> Result<Progress, StudyFault>
-        ensures { result ≡ standing_answer (net network.now) (state_of self.now) }
+        ensures { result ≡ standing_answer (N.net network.now) (state_of self.now) }
     {
         let Some(door) = self.door else {
             return Err(StudyFault::NoAim);
@@ -112,7 +112,7 @@ impl Study {
 
     // The branch set and the node vector of row k.
     pub fn show<N: Network>(&self, network: &N, k: usize) -> Result<(u64, u32), StudyFault>
-        ensures answer { result ≡ show_answer (net network.now) k (state_of self.now) }
+        ensures answer { result ≡ show_answer (N.net network.now) k (state_of self.now) }
     {
         if self.door.is_none() {
             return Err(StudyFault::NoAim);
@@ -146,8 +146,8 @@ impl Study {
         k: usize,
         buffer: &mut [u8],
     ) -> Result<usize, StudyFault>
-        ensures answer { result ≡ line_answer (net network.now) k (length buffer.old) (state_of self.now) }
-        ensures bytes { buffer.new ≡ line_written (net network.now) k buffer.old (state_of self.now) }
+        ensures answer { result ≡ line_answer (N.net network.now) k (length buffer.old) (state_of self.now) }
+        ensures bytes { buffer.new ≡ line_written (N.net network.now) k buffer.old (state_of self.now) }
         ensures kept { Kept result buffer.old buffer.new }
     {
         let (branches, nodes) = self.show(network, k)?;

@@ -1,4 +1,4 @@
-use Rattle.std.proofs.Common.{◌∙◌, arith, length-set, rules}
+use Rattle.std.proofs.Common.{arith, length-set}
 use Rattle.piles.specs.Rows.{row_of}
 use Rattle.piles.proofs.Filled.{filled_more}
 use Rattle.piles.proofs.rows.Goals as goal

@@ -1,4 +1,4 @@
-use Rattle.std.proofs.Common.{◌≡◌, ℕ, ◌<◌, ◌≤◌, max, length, get_or}
+use Rattle.std.proofs.Common.{◌≡◌, ℕ, ◌<◌, max, length, get_or}
 use Rattle.network.specs.declared.branch.TableRow.{TableRow}
 use Rattle.piles.specs.Rows.{row_of}
 use Rattle.piles.proofs.rows.Given as goal

@@ -1,5 +1,5 @@
 use Rattle.std.proofs.Common.{◌≡◌, cond, eqb, ◌∙◌, rules}
-use Rattle.chance.specs.Bounds.{larger, low, high, added_up}
+use Rattle.chance.specs.Bounds.{larger, low, added_up}
 use Rattle.chance.proofs.Enclosed.{brackets}
 use Rattle.chance.proofs.LargestOf.{first-largest}
 use Rattle.chance.proofs.RowSteps.{added_none, rows_none, pairs-none, low-none, rows_more, pairs-more, low-more, high-more, all-rows, high_is}
@@ -23,14 +23,14 @@ loop-j-preserved g c =
     let j = c.loop-j.j in
     let h = c.loop-j-test.true in
     let before = c.loop-j.invariant in
-    let first = rows_more s ratings rows j h c.add-down-s1.ensures before.0 in
-    let pairs = pairs-more s ratings rows j h c.add-pairs-s2.ensures before.1 in
-    let less : c.less_down.result ≡ s.less_down c.add-down-s1.result c.add-pairs-s2.result = search rules in
+    let first = rows_more s ratings rows j h c.add_down-s1.ensures before.0 in
+    let pairs = pairs-more s ratings rows j h c.add_pairs-s2.ensures before.1 in
+    let less : c.less_down.result ≡ s.less_down c.add_down-s1.result c.add_pairs-s2.result = search rules in
     let step : c.better-low.result ≡ cond (eqb j 0) c.less_down.result (larger s c.loop-j.low c.less_down.result) = search rules in (
       first,
       pairs,
       low-more s ratings rows j h step less before.2 first pairs,
-      high-more s ratings rows j {sum = c.loop-j.sum} h c.add-up-sum.ensures before.3,
+      high-more s ratings rows j {sum = c.loop-j.sum} h c.add_up-sum.ensures before.3,
     )
 
 pub returns : goal.returns

@@ -5,7 +5,7 @@ use Rattle.engine.proofs.listing.list_sets.Goals as goal
 
 pub loop-k-preserved : goal.loop-k-preserved
 loop-k-preserved g c =
-    listed_more (branch_set (g.N.Network.net c.args.network.now)) c.loop-k.sets c.args.rows.now c.loop-k.k _ _ (omega arith) (omega arith) c.branch-set-of.ensures c.loop-k.invariant
+    listed_more (branch_set (g.N.Network.net c.args.network.now)) c.loop-k.sets c.args.rows.now c.loop-k.k _ _ (omega arith) (omega arith) c.branch_set_of.ensures c.loop-k.invariant
 
 pub returns : goal.returns
 returns g c = listed-all (branch_set (g.N.Network.net c.args.network.now)) c.loop-k.sets c.args.rows.now c.loop-k.k (omega arith) c.loop-k.invariant

@@ -17,9 +17,9 @@ returns c = record {
   fine_down = same-decimal _ _ refl refl;
   fine_up = same-decimal _ _ refl refl;
   less = same-decimal _ _ refl refl;
-  found_down = c.times-down.ensures ∙ same_units _ _ (omega arith);
+  found_down = c.times_down.ensures ∙ same_units _ _ (omega arith);
   found_up = c.times_up.ensures ∙ same_units _ _ (omega arith);
-  found_fine_down = c.times-down-2.ensures ∙ same-decimal _ _ (omega arith) (omega arith);
-  found_fine_up = c.times-up-2.ensures ∙ same-decimal _ _ refl refl;
+  found_fine_down = c.times_down-2.ensures ∙ same-decimal _ _ (omega arith) (omega arith);
+  found_fine_up = c.times_up-2.ensures ∙ same-decimal _ _ refl refl;
   found_less = less-from-one c.one.result c.less_down.result c.one.ensures c.less_down.ensures;
 }

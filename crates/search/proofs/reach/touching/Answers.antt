@@ -1,7 +1,7 @@
 use Rattle.std.proofs.Common.{sym, ◌∙◌, arith}
 use Rattle.sets.proofs.Nth.{some_below}
 use Rattle.search.proofs.Walks.{met-none, met-yes, met-no, touching-is}
-use Rattle.search.proofs.reach.touching.Goals.{in-Some-b+then-is-usable, in-Some-b+else-is-usable, in-default-b}
+use Rattle.search.proofs.reach.touching.Goals.{in_Some-b+then-is_usable, in_Some-b+else-is_usable, in_default-b}
 use Rattle.search.proofs.reach.touching.Goals as goal
 
 pub loop-k-init : goal.loop-k-init
@@ -12,11 +12,11 @@ loop-k-preserved g c =
     let net = g.N.Network.net c.args.network.now in
     let k = c.loop-k.k in
     elim c.match-branch.branch [
-      | in-Some-b+then-is-usable w ↦
-          w.met-is ∙ met-yes c.args.over net c.args.set k c.loop-k.met _ w.in-Some-b.b (sym c.branch-b.ensures ∙ w.in-Some-b.is) (sym w.if-is-usable.ensures) c.loop-k.invariant w.joined-by-met.ensures
-      | in-Some-b+else-is-usable w ↦
-          w.met-is ∙ met-no c.args.over net c.args.set k c.loop-k.met w.in-Some-b.b (sym c.branch-b.ensures ∙ w.in-Some-b.is) (sym w.if-is-usable.ensures) c.loop-k.invariant
-      | in-default-b w ↦ absurd (some_below net.branches k (omega arith) (sym c.branch-b.ensures ∙ w.in-default-b.is))
+      | in_Some-b+then-is_usable w ↦
+          w.met-is ∙ met-yes c.args.over net c.args.set k c.loop-k.met _ w.in_Some-b.b (sym c.branch-b.ensures ∙ w.in_Some-b.is) (sym w.if-is_usable.ensures) c.loop-k.invariant w.joined_by-met.ensures
+      | in_Some-b+else-is_usable w ↦
+          w.met-is ∙ met-no c.args.over net c.args.set k c.loop-k.met w.in_Some-b.b (sym c.branch-b.ensures ∙ w.in_Some-b.is) (sym w.if-is_usable.ensures) c.loop-k.invariant
+      | in_default-b w ↦ absurd (some_below net.branches k (omega arith) (sym c.branch-b.ensures ∙ w.in_default-b.is))
     ]
 
 pub returns : goal.returns

@@ -7,16 +7,16 @@ use Rattle.search.proofs.Portions.{stands}
 use Rattle.search.proofs.Plans.{not_more, made-is, go-room, run_step, run_none}
 use Rattle.search.proofs.run.run_tries.Goals as goal
 
-pub returns-in-default : goal.returns-in-default
-returns-in-default g c t =
+pub returns-in_default : goal.returns-in_default
+returns-in_default g c t =
     let net = g.N.Network.net c.args.network.now in
     let rows = rows_of c.loop.table in
-    sym (stands net c.args.door (c.args.budget - c.loop.counter) (searched rows (t + c.loop.progress.tries)) (not_more net c.args.door rows c.next-try.result c.next-try.ensures c.in-default.not-Go))
+    sym (stands net c.args.door (c.args.budget - c.loop.counter) (searched rows (t + c.loop.progress.tries)) (not_more net c.args.door rows c.next_try.result c.next_try.ensures c.in_default.not-Go))
     ∙ c.loop.invariant.2 t
 
 pub make-requires : goal.make-requires
 make-requires g c =
-    go-room (g.N.Network.net c.args.network.now) c.args.door (rows_of c.loop.table) c.in-Go.t c.next-try.result c.next-try.ensures c.in-Go.is
+    go-room (g.N.Network.net c.args.network.now) c.args.door (rows_of c.loop.table) c.in-Go.t c.next_try.result c.next_try.ensures c.in-Go.is
 
 pub loop-preserved : goal.loop-preserved
 loop-preserved g c =
@@ -24,7 +24,7 @@ loop-preserved g c =
     let door = c.args.door in
     let rows = rows_of c.loop.table in
     let rows' = rows_of c.make.new.table in
-    let made = made-is net door rows rows' c.in-Go.t c.next-try.result c.next-try.ensures c.in-Go.is c.make.ensures in
+    let made = made-is net door rows rows' c.in-Go.t c.next_try.result c.next_try.ensures c.in-Go.is c.make.ensures in
     let left = c.args.budget - (c.loop.counter + 1) in
     let goal : Progress → Type 0 = λ p.
     (p.tries ≤ c.loop.counter + 1) × Shut net rows' p.first

@@ -1,4 +1,4 @@
-use Rattle.std.proofs.Common.{◌≡◌, ℕ, List, [], ◌∷◌, ◌++◌, string_bytes, codes, ap, ◌∙◌}
+use Rattle.std.proofs.Common.{[], ◌∷◌, ◌++◌, string_bytes, codes, ap, ◌∙◌}
 use Rattle.cut_line.specs.Cuts.{members_below, spaced}
 use Rattle.sheet.proofs.Lines.{then-more, made_more, made_as}
 use Rattle.sheet.proofs.CutTexts.{five}
@@ -11,9 +11,9 @@ returns c =
     let branches = spaced (members_below 64 c.args.branches) in
     let stroke = codes " /" in
     let nodes = spaced (members_below 32 c.args.nodes) in
-    let two = then-more _ start cut branches _ c.in-ok-write-word.ensures c.in-ok-write-members.ensures in
-    let three = then-more _ start (cut ++ branches) stroke _ two c.in-ok-write-word-2.ensures in
+    let two = then-more _ start cut branches _ c.in_ok-write_word.ensures c.in_ok-write_members.ensures in
+    let three = then-more _ start (cut ++ branches) stroke _ two c.in_ok-write_word-2.ensures in
     let four = then-more _ start ((cut ++ branches) ++ stroke) nodes _ three
-    (c.in-ok-write-members-2.ensures ∙ ap (λ m. string_bytes c.write-word-2.new.text ++ spaced (members_below 32 m)) c.from.ensures) in
+    (c.in_ok-write_members-2.ensures ∙ ap (λ m. string_bytes c.write_word-2.new.text ++ spaced (members_below 32 m)) c.from.ensures) in
     made_as _ start (((((cut ++ branches) ++ stroke) ++ nodes) ++ (10 ∷ []))) _ _ (five cut branches stroke nodes (10 ∷ []))
-    (made_more _ _ start (((cut ++ branches) ++ stroke) ++ nodes) (10 ∷ []) _ four c.write-word-3.ensures)
+    (made_more _ _ start (((cut ++ branches) ++ stroke) ++ nodes) (10 ∷ []) _ four c.write_word-3.ensures)

@@ -10,6 +10,6 @@ returns c =
     let rows = c.args.rows.now in
     let taken = c.in-Ok.ensures.after in
     made_more _ _ (string_bytes c.args.text.now) (network_text (list_net deck.nodes rows) (map rating_of rows) deck.head) _ _
-    (c.in-ok-write-network.ensures
+    (c.in_ok-write_network.ensures
     ∙ ap₂ (λ n ts. string_bytes c.args.text.now ++ network_text (list_net n ts) (map rating_of ts) deck.head) taken.0 taken.1)
-    c.write-doors.ensures
+    c.write_doors.ensures

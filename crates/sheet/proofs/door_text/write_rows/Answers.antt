@@ -7,4 +7,4 @@ loop-k-init g c = rows_none (g.N.Network.net c.args.network.now) (state_of c.arg
 
 pub loop-k-preserved : goal.loop-k-preserved
 loop-k-preserved g c =
-    rows_more (g.N.Network.net c.args.network.now) (state_of c.args.study.now) _ _ _ _ c.loop-k.invariant c.in-ok-write-row.ensures
+    rows_more (g.N.Network.net c.args.network.now) (state_of c.args.study.now) _ _ _ _ c.loop-k.invariant c.in_ok-write_row.ensures

@@ -17,8 +17,8 @@ returns g c =
     let cuts = cut_lines net s (length s.search.rows) in
     let low = low_line (bounds_answer net ratings billionths s) in
     let fine = fine_line (bounds_answer net ratings nine_figures s) in
-    let two = then-more _ start first cuts _ c.in-ok-write-standing.ensures
-    (c.in-ok-write-rows.ensures ∙ ap (λ n. string_bytes c.write-standing.new.text ++ cut_lines net s n) c.rows.ensures) in
-    let three = then-more _ start (first ++ cuts) low _ two c.in-ok-write-low.ensures in
+    let two = then-more _ start first cuts _ c.in_ok-write_standing.ensures
+    (c.in_ok-write_rows.ensures ∙ ap (λ n. string_bytes c.write_standing.new.text ++ cut_lines net s n) c.rows.ensures) in
+    let three = then-more _ start (first ++ cuts) low _ two c.in_ok-write_low.ensures in
     made_as _ start (((first ++ cuts) ++ low) ++ fine) _ _ (four first cuts low fine)
-    (made_more _ _ start ((first ++ cuts) ++ low) fine _ three c.write-fine.ensures)
+    (made_more _ _ start ((first ++ cuts) ++ low) fine _ three c.write_fine.ensures)

@@ -7,4 +7,4 @@ loop-k-init g c = search (rules, lines_none)
 
 pub loop-k-preserved : goal.loop-k-preserved
 loop-k-preserved g c =
-    lines_more (g.N.Network.net c.args.network.now).branches (g.N.RatedNetwork.rated c.args.network.now).ratings _ _ _ _ c.loop-k.invariant c.in-ok-write-branch-at.ensures
+    lines_more (g.N.Network.net c.args.network.now).branches (g.N.RatedNetwork.rated c.args.network.now).ratings _ _ _ _ c.loop-k.invariant c.in_ok-write_branch_at.ensures

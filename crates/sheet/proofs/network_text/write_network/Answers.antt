@@ -7,6 +7,6 @@ pub returns : goal.returns
 returns g c =
     let net = g.N.Network.net c.args.network.now in
     made_more _ _ (string_bytes c.args.text.now) (headline net.nodes c.args.head (length net.branches)) _ _
-    (c.in-ok-write-headline.ensures
+    (c.in_ok-write_headline.ensures
     ∙ ap₂ (λ n b. string_bytes c.args.text.now ++ headline n c.args.head b) c.nodes.ensures c.branches.ensures)
-    c.write-branches.ensures
+    c.write_branches.ensures

@@ -8,11 +8,11 @@ returns-then-k-count g c =
     c.branch-self.ensures
     ∙ nth-joint-first s.node (g.P.Network.net s.first) (g.Q.Network.net s.second) c.if-not-joinable.ensures c.args.k (omega arith)
 
-pub moved-at-requires : goal.moved-at-requires
-moved-at-requires g c = let p = g.P.Network.legal c.args.self.now.first in omega arith
+pub moved_at-requires : goal.moved_at-requires
+moved_at-requires g c = let p = g.P.Network.legal c.args.self.now.first in omega arith
 
 pub returns : goal.returns
 returns g c =
     let s = c.args.self.now in
-    c.moved-at.ensures
+    c.moved_at.ensures
     ∙ nth-joint-second s.node (g.P.Network.net s.first) (g.Q.Network.net s.second) c.if-not-joinable.ensures c.args.k _ _ c.branches-count.ensures c.if-k-count.false c.nodes.ensures

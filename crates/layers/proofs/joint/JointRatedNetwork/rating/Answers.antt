@@ -30,7 +30,7 @@ returns-else-k-count g c =
     record {
       answer =
           c.rating-second.ensures.answer
-          ∙ ap (slice_get q.ratings) c.saturating-sub.ensures
+          ∙ ap (slice_get q.ratings) c.saturating_sub.ensures
           ∙ nth-rated-second s.node p q _ _ same-p same-q legal c.if-not-joinable.ensures c.args.k _ c.branches-count.ensures c.if-k-count.false;
       same = ap₂ (joint_net s.node) same-p same-q;
     }

@@ -1,12 +1,12 @@
-use Rattle.std.proofs.Common.{◌≡◌, ◌+◌, ◌*◌, ap, ◌∙◌, arith}
+use Rattle.std.proofs.Common.{ap, ◌∙◌, arith}
 use Rattle.scale.specs.Fractions.{decimal}
 use Rattle.scale.specs.NineFigures.{floor}
 use Rattle.scale.proofs.NineOps.{plus-near-floor, plus-far-floor}
 use Rattle.scale.proofs.nine_figures.rounded.add_down.Goals as goal
 
-pub returns-then-y-x-gt-SUM-GAP : goal.returns-then-y-x-gt-SUM-GAP
-returns-then-y-x-gt-SUM-GAP c = plus-far-floor c.args.x c.args.y (omega arith) (omega arith) (omega arith)
+pub returns-then-y-x-gt-SUM_GAP : goal.returns-then-y-x-gt-SUM_GAP
+returns-then-y-x-gt-SUM_GAP c = plus-far-floor c.args.x c.args.y (omega arith) (omega arith) (omega arith)
 
 pub returns : goal.returns
 returns c =
-    c.round-down.ensures ∙ ap (λ n. floor (decimal n c.args.y.exponent)) c.exact-sum.ensures ∙ plus-near-floor c.args.x c.args.y (omega arith)
+    c.round_down.ensures ∙ ap (λ n. floor (decimal n c.args.y.exponent)) c.exact_sum.ensures ∙ plus-near-floor c.args.x c.args.y (omega arith)

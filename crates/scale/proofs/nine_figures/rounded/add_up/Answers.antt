@@ -1,12 +1,12 @@
-use Rattle.std.proofs.Common.{◌≡◌, ◌+◌, ◌*◌, ap, ◌∙◌, arith}
+use Rattle.std.proofs.Common.{ap, ◌∙◌, arith}
 use Rattle.scale.specs.Fractions.{decimal}
 use Rattle.scale.specs.NineFigures.{ceiling}
 use Rattle.scale.proofs.NineOps.{plus-near-ceiling, plus-far-ceiling}
 use Rattle.scale.proofs.nine_figures.rounded.add_up.Goals as goal
 
-pub returns-then-y-x-gt-SUM-GAP : goal.returns-then-y-x-gt-SUM-GAP
-returns-then-y-x-gt-SUM-GAP c = c.round-up.ensures ∙ plus-far-ceiling c.args.x c.args.y (omega arith) (omega arith) (omega arith) (omega arith)
+pub returns-then-y-x-gt-SUM_GAP : goal.returns-then-y-x-gt-SUM_GAP
+returns-then-y-x-gt-SUM_GAP c = c.round_up.ensures ∙ plus-far-ceiling c.args.x c.args.y (omega arith) (omega arith) (omega arith) (omega arith)
 
 pub returns : goal.returns
 returns c =
-    c.round-up-2.ensures ∙ ap (λ n. ceiling (decimal n c.args.y.exponent)) c.exact-sum.ensures ∙ plus-near-ceiling c.args.x c.args.y (omega arith)
+    c.round_up-2.ensures ∙ ap (λ n. ceiling (decimal n c.args.y.exponent)) c.exact_sum.ensures ∙ plus-near-ceiling c.args.x c.args.y (omega arith)

@@ -1,4 +1,4 @@
-use Rattle.std.proofs.Common.{◌≡◌, ◌*◌, ap, arith}
+use Rattle.std.proofs.Common.{◌*◌, ap, arith}
 use Rattle.scale.specs.NineLaws.{ten-more}
 use Rattle.scale.proofs.nine_figures.rounding.lengthened.Goals as goal
 

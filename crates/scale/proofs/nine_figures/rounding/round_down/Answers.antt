@@ -1,4 +1,4 @@
-use Rattle.std.proofs.Common.{◌≡◌, ◌-◌, sym, ap, ◌∙◌, arith}
+use Rattle.std.proofs.Common.{sym, ap, ◌∙◌, arith}
 use Rattle.scale.specs.Fractions.{decimal}
 use Rattle.scale.specs.NineFigures.{floor}
 use Rattle.scale.proofs.NineSteps.{floor-none, floor-same, floor-shorter}
@@ -19,4 +19,4 @@ pub loop-m-preserved : goal.loop-m-preserved
 loop-m-preserved c = (omega arith, floor-shorter c.loop-m.m c.loop-m.e _ _ (omega arith) (omega arith) (omega arith) (omega arith) ∙ c.loop-m.invariant.1)
 
 pub returns : goal.returns
-returns c = c.place-down.ensures ∙ c.loop-m.invariant.1
+returns c = c.place_down.ensures ∙ c.loop-m.invariant.1

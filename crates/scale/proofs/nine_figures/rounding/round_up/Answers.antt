@@ -1,4 +1,4 @@
-use Rattle.std.proofs.Common.{◌≡◌, ◌-◌, sym, ap, ◌∙◌, arith}
+use Rattle.std.proofs.Common.{sym, ap, ◌∙◌, arith}
 use Rattle.scale.specs.Fractions.{decimal}
 use Rattle.scale.specs.NineFigures.{ceiling}
 use Rattle.scale.proofs.NineSteps.{ceiling-none, ceiling-same, ceiling-shorter}
@@ -22,4 +22,4 @@ loop-m-preserved c = (
 )
 
 pub returns : goal.returns
-returns c = c.place-up.ensures ∙ c.loop-m.invariant.1
+returns c = c.place_up.ensures ∙ c.loop-m.invariant.1

@@ -2,8 +2,8 @@ use Rattle.std.proofs.Common.{rules}
 use Rattle.search.proofs.Tables.{length-rows, bar-written}
 use Rattle.search.proofs.table.Table.bar.Goals as goal
 
-pub offset-bounds-self-k : goal.offset-bounds-self-k
-offset-bounds-self-k c = let n = length-rows c.args.self.now in search rules
+pub offset_bounds-self-k : goal.offset_bounds-self-k
+offset_bounds-self-k c = let n = length-rows c.args.self.now in search rules
 
 pub returns : goal.returns
 returns c = let n = length-rows c.args.self.now in search (rules, bar-written)

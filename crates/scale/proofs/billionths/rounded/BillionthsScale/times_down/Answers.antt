@@ -1,8 +1,8 @@
 use Rattle.scale.specs.BillionthLaws.{times-floor, floor-to-one}
 use Rattle.scale.proofs.billionths.rounded.BillionthsScale.times_down.Goals as goal
 
-pub invariant-of-result : goal.invariant-of-result
-invariant-of-result c = (rw c.units-down.ensures (floor-to-one c.args.x c.args.by), tt)
+pub invariant_of-result : goal.invariant_of-result
+invariant_of-result c = record { to_one = rw c.units_down.ensures (floor-to-one c.args.x c.args.by) }
 
 pub returns : goal.returns
-returns c = times-floor c.args.x c.args.by _ c.units-down.ensures
+returns c = times-floor c.args.x c.args.by _ c.units_down.ensures

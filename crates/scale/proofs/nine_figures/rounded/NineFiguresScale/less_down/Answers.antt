@@ -1,4 +1,4 @@
-use Rattle.std.proofs.Common.{◌≡◌, ◌-◌, ◌*◌, ap, ◌∙◌, arith}
+use Rattle.std.proofs.Common.{ap, ◌∙◌, arith}
 use Rattle.scale.specs.Fractions.{decimal}
 use Rattle.scale.specs.NineFigures.{floor}
 use Rattle.scale.specs.NineForms.{some-figures}
@@ -14,10 +14,10 @@ returns-then-x-eq0 c = nothing-less-floor c.args.x c.args.y c.if-x-eq0.true
 pub returns-then-x-y : goal.returns-then-x-y
 returns-then-x-y c = c.nought.ensures ∙ smaller-less-floor c.args.x c.args.y (omega arith) (omega arith)
 
-pub returns-then-y-x-gt-LESS-GAP : goal.returns-then-y-x-gt-LESS-GAP
-returns-then-y-x-gt-LESS-GAP c =
-    c.round-down.ensures ∙ less-far-floor c.args.x c.args.y (omega arith) (some-figures c.args.x (omega arith)) (omega arith) (omega arith)
+pub returns-then-y-x-gt-LESS_GAP : goal.returns-then-y-x-gt-LESS_GAP
+returns-then-y-x-gt-LESS_GAP c =
+    c.round_down.ensures ∙ less-far-floor c.args.x c.args.y (omega arith) (some-figures c.args.x (omega arith)) (omega arith) (omega arith)
 
 pub returns : goal.returns
 returns c =
-    c.round-down-2.ensures ∙ ap (λ n. floor (decimal n c.args.y.exponent)) c.exact-difference.ensures ∙ less-near-floor c.args.x c.args.y (omega arith)
+    c.round_down-2.ensures ∙ ap (λ n. floor (decimal n c.args.y.exponent)) c.exact_difference.ensures ∙ less-near-floor c.args.x c.args.y (omega arith)
