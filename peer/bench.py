@@ -3,7 +3,8 @@
     python3 peer/bench.py [--repeats N]
 
 The Rust peer is built first.  The product's programs `study` and
-`bounds_cases` have to stand in `target/bin`.  Both sides get the same inputs,
+`bounds_cases` have to be built: `rt run` in `crates/NAME` leaves the program
+`NAME` in that folder's `out`.  Both sides get the same inputs,
 by turns, and the wall time of each whole process is taken; nothing is
 subtracted.  The first line of the table, a deck with a single branch, shows
 what starting a process costs.  Nothing is stored.
@@ -31,13 +32,18 @@ ROOT = Path(__file__).resolve().parent.parent
 BENCH = ROOT / "peer" / "bench"
 CRATE = ROOT / "peer" / "rust"
 RELEASE = CRATE / "target" / "release"
-PRODUCT = ROOT / "target" / "bin"
+CRATES = ROOT / "crates"
 
 STUDY = ("study", "study")
 BOUNDS = ("bounds_cases", "bounds")
 MOST_ROWS = 512
 
 Pair = tuple[int, int]
+
+
+def product_of(name: str) -> Path:
+    """The program of that name, as the toolchain leaves it."""
+    return CRATES / name / "out" / name
 
 
 class Missing(Exception):
@@ -56,7 +62,7 @@ class Race:
     def commands(self) -> tuple[Path, Path]:
         """The product's program and the peer's."""
         product, peer = self.programs
-        return PRODUCT / product, RELEASE / peer
+        return product_of(product), RELEASE / peer
 
 
 @dataclass
@@ -80,8 +86,8 @@ class Side:
 def programs() -> None:
     """Sees to it that the programs of both sides are there."""
     for name, _ in (STUDY, BOUNDS):
-        if not (PRODUCT / name).is_file():
-            raise Missing(f"no {(PRODUCT / name).relative_to(ROOT)}: build the product first")
+        if not product_of(name).is_file():
+            raise Missing(f"no {product_of(name).relative_to(ROOT)}: build the product first")
     if shutil.which("cargo") is None:
         raise Missing("no cargo to build the peer with")
     build = ["cargo", "build", "--release", "--offline", "--quiet", "-j1", "--target-dir", "target"]

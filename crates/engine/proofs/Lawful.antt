@@ -37,7 +37,7 @@ folded-append : {A B : Type 0} (f : B → A → B) (n : B) (xs ys : List A) → 
 folded-append f n [] ys = refl
 folded-append f n (x ∷ xs) ys = folded-append f (f n x) xs ys
 
--- an accepted set_up says that the head is a node, and forgets what was held
+-- an accepted set-up says that the head is a node, and forgets what was held
 accepted-head : (t : Bool) → asked t Head ≡ Ok tt → t ≡ true
 accepted-head true e = refl
 accepted-head false e = absurd (let z : ◌≡◌ {A = ℕ} 0 1 = cc in omega arith)

@@ -31,7 +31,7 @@ unfoldable pub shown : State → Shown
 shown s = record { door = s.door; list = listed (bridge Able) s.search }
 
 module _ {Num : Type 0} (scale : Arithmetic Num) where
-  -- what the calls after a set_up answer
+  -- what the calls after a set-up answer
   unfoldable pub given : List Call → List (Answer Num)
   given calls = answers rated_bridge.plain rated_bridge.ratings scale (set_up (bridge Able) 0 no_state) calls
 
@@ -48,6 +48,6 @@ module _ {Num : Type 0} (scale : Arithmetic Num) where
     pub to_the_end : given (Aim 3 ∷ Advance 2 ∷ Advance 10 ∷ Show 3 ∷ Show 4 ∷ [])
         ≡ said.Aim (Ok tt) ∷ said.Advance (Ok (record { tries = 2; rows = 3; status = stands.More })) ∷ said.Advance (Ok (record { tries = 1; rows = 4; status = stands.Finished }))
         ∷ said.Show (Ok (0b11000, 0b1000)) ∷ said.Show (Err no.NoRow) ∷ []
-    -- an accepted aim starts anew, and so does a set_up, whatever was listed before
+    -- an accepted aim starts anew, and so does a set-up, whatever was listed before
     pub aimed_anew : shown (after (bridge Able) 0 (Aim 3 ∷ Advance 10 ∷ Aim 1 ∷ [])) ≡ record { door = Some 1; list = 0b00011 ∷ [] }
     pub set_up_anew : shown (after_set_up (bridge Able) 0 (after (bridge Able) 0 (Aim 3 ∷ Advance 10 ∷ [])) (Aim 1 ∷ [])) ≡ record { door = Some 1; list = 0b00011 ∷ [] }

@@ -1,4 +1,4 @@
--- The law over runs: what holds of a study at every point of any list of calls after its set_up.
+-- The law over runs: what holds of a study at every point of any list of calls after its set-up.
 use Rattle.std.specs.Prelude.{◌≡◌, ℕ, ◌-◌, ◌*◌, ◌^◌, ◌<◌, ◌≤◌, Bool, true, false, not, ◌&&◌, List, ◌++◌, length, Some, Ok, Err, Decides, slice_index}
 use Rattle.std.specs.List.{ContainsAt as Has, AllByRecursion}
 use Rattle.refusals.specs.declared.study_fault.StudyFault.TheVariants.{NoRow}

@@ -9,7 +9,7 @@ use Rattle.engine.specs.declared.call.Answer.{Answer}
 use Rattle.engine.specs.declared.call.Answer.TheVariants.{Aim, Advance, Show, Bounds}
 use Rattle.engine.specs.Studies.{State, no_state, set_up, aim_answer, advance_answer, show_answer, bounds_answer, called}
 
--- the study after a set_up and calls, whatever it held before
+-- the study after a set-up and calls, whatever it held before
 abbrev pub after_set_up : Net → ℕ → State → List Call → State
 after_set_up net head held calls = fold (called net) (set_up net head held) calls
 

@@ -21,7 +21,7 @@ use Rattle.engine.specs.declared.progress.Progress.{Progress}
 use Rattle.engine.specs.declared.study.Study.{Study}
 use Rattle.engine.specs.Questions.{door_asked, budget_asked}
 
--- the head of the set_up, the door of the last accepted aim since then, and its search
+-- the head of the set-up, the door of the last accepted aim since then, and its search
 pub record State : Type 0 where
   pub head : Option ℕ
   pub door : Option ℕ
@@ -50,12 +50,12 @@ set_up_by head s (Err f) = s
 abbrev pub set_up : Net → ℕ → State → State
 set_up net head s = set_up_by head s (set_up_answer net head)
 
--- after an accepted set_up a study is as any other would be after it, whatever that one held
+-- after an accepted set-up a study is as any other would be after it, whatever that one held
 abbrev pub Forgets : Net → ℕ → Answer StudyFault → State → Type 0
 Forgets net head (Ok u) s = (held : State) → s ≡ set_up net head held
 Forgets net head (Err f) s = Unit {0}
 
--- Aim: before a set_up there is no node that could be the door
+-- Aim: before a set-up there is no node that could be the door
 
 abbrev pub aim_asked : Net → Option ℕ → ℕ → Answer StudyFault
 aim_asked net None door = Err Door
@@ -167,7 +167,7 @@ standing_when net (Some door) s = Ok (record { tries = s.tries; rows = length s.
 abbrev pub standing_answer : Net → State → Result Progress StudyFault
 standing_answer net s = standing_when net s.door s.search
 
--- Any call after a set_up; a refused one, a showing and a question for bounds change nothing
+-- Any call after a set-up; a refused one, a showing and a question for bounds change nothing
 
 abbrev pub called : Net → State → Call → State
 called net s (Aim door) = aim_from net s.head door s

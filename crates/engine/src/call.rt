@@ -1,4 +1,4 @@
-// The calls of a study after its set_up, what each answers, and what can stop a list of them.
+// The calls of a study after its set-up, what each answers, and what can stop a list of them.
 ghost use Rattle.std.specs.Prelude.{◌≡◌};
 ghost use Rattle.engine.specs.declared.call.CarryFault.TheVariants.{Study, Memory};
 
@@ -30,7 +30,7 @@ pub enum Answer<T> {
 
 #[derive(Clone, Copy)]
 pub enum CarryFault {
-    // the set_up was refused
+    // the set-up was refused
     Study(StudyFault),
     // there is no memory for the answers
     Memory,

@@ -1,4 +1,4 @@
-// Studies of a network: set_up, aims, advances, showings, bounds, and whole lists of calls.
+// Studies of a network: set-up, aims, advances, showings, bounds, and whole lists of calls.
 #![tactic(auto)]
 
 pub mod call;

@@ -11,7 +11,7 @@ use Rattle.engine.specs.Studies.{no_state, set_up, set_up_by, set_up_answer, aim
 use Rattle.engine.specs.Runs.{after, answers}
 use Rattle.sheet.specs.Sheets.{refused_line, study_text, door_calls, aim_fault, first_fault, door_text, door_texts}
 
--- what the first aim after a set_up is asked
+-- what the first aim after a set-up is asked
 first-aim : (net : Net) (head d : ℕ) → set_up_answer net head ≡ Ok tt → aim_answer net d (set_up net head no_state) ≡ door_asked net head d
 first-aim net head d e = ap (λ a. aim_asked net (set_up_by head no_state a).head d) e
 

@@ -19,7 +19,7 @@ use search::status::Status;
 use search::table::Table;
 
 impl Study {
-    // A study before its first set_up.
+    // A study before its first set-up.
     pub fn new() -> Study
         ensures { state_of result ≡ no_state }
     {
