@@ -1,4 +1,4 @@
-pub mod Chosen
+pub mod NextChosen
 pub mod RowSteps
 pub mod Risks
 pub mod OverSets

@@ -2,5 +2,6 @@
 #![tactic(auto)]
 
 pub mod bounds;
+mod chosen;
 mod products;
-mod sums;
+mod ratings;

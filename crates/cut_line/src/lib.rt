@@ -1,56 +1,59 @@
-// The line that tells one cut, written into a buffer.
+// The line that tells one cut, as text of its own and in a caller's buffer.
 #![tactic(auto)]
 
-ghost use Rattle.std.specs.Prelude.{◌≡◌, ℕ, ◌+◌, ◌*◌, ◌<◌, ◌≤◌, [], ◌∷◌, length};
-ghost use Rattle.cut_line.specs.Cuts.{written, members_below, spaced, cut_written, cut_length};
+ghost use Rattle.std.specs.Prelude.{◌≡◌, ◌+◌, ◌*◌, ◌<◌, ◌≤◌, [], ◌∷◌, ◌++◌, length};
+ghost use Rattle.arrayvec.specs.ArrayString.{array_string_len};
+ghost use Rattle.cut_line.specs.Cuts.{members_below, spaced, cut_line, cut_written, cut_length};
 
+use arrayvec::ArrayString;
 use refusals::study_fault::StudyFault;
-use sets::branch_set::contains;
+use sets::set::BranchSet;
 
-// Writes bytes at a place, and answers the place after them.
-fn put_bytes(out: &mut [u8], at: usize, bytes: &[u8]) -> usize
-    requires { at + length bytes.now ≤ length out.old }
-    ensures place { result ≡ at + length bytes.now }
-    ensures bytes { out.new ≡ written at bytes.now out.old }
-{
-    let end = at + bytes.len();
-    out[at..end].copy_from_slice(bytes);
-    end
-}
+// Every line has room in this: 3 bytes for each of 64 branches and of 32 nodes, and 6 more.
+pub type Line = ArrayString<320>;
 
-// Writes a space and a number of at most two digits.
-fn put_number(out: &mut [u8], at: usize, n: u8) -> usize
-    requires room { at + 3 ≤ length out.old }
+// Appends a space and a number of at most two digits.
+fn push_number(line: &mut Line, n: u8)
+    requires room { array_string_len line.old + 3 ≤ 320 }
     requires small { n < 100 }
-    ensures place { result ≡ at + length (spaced (n ∷ [])) }
-    ensures bytes { out.new ≡ written at (spaced (n ∷ [])) out.old }
+    ensures { line.new.bytes ≡ line.old.bytes ++ spaced (n ∷ []) }
 {
-    if n < 10 {
-        put_bytes(out, at, &[b' ', b'0' + n])
-    } else {
-        put_bytes(out, at, &[b' ', b'0' + n / 10, b'0' + n % 10])
+    line.push(' ');
+    if n >= 10 {
+        line.push(char::from(b'0' + n / 10));
     }
+    line.push(char::from(b'0' + n % 10));
 }
 
-// Writes the numbers of a set's members below a limit, rising, each after a space.
-fn put_members(out: &mut [u8], at: usize, members: u64, limit: u8) -> usize
-    requires room { at + 3 * limit ≤ length out.old }
+// Appends the numbers of a set's members below a limit, rising, each after a space.
+fn push_members(line: &mut Line, members: BranchSet, limit: u8)
+    requires room { array_string_len line.old + 3 * limit ≤ 320 }
     requires small { limit ≤ 64 }
-    ensures place { result ≡ at + length (spaced (members_below limit members)) }
-    ensures few { result ≤ at + 3 * limit }
-    ensures bytes { out.new ≡ written at (spaced (members_below limit members)) out.old }
+    ensures few { array_string_len line.new ≤ array_string_len line.old + 3 * limit }
+    ensures bytes { line.new.bytes ≡ line.old.bytes ++ spaced (members_below limit members) }
 {
-    let mut end = at;
     for k in 0..limit {
-        if contains(members, u32::from(k)) {
-            end = put_number(out, end, k);
+        if members.contains(u32::from(k)) {
+            push_number(line, k);
         }
     }
-    end
 }
 
-// Writes the CUT line of a branch set and a node vector with its byte 10, and answers the length of both. A buffer of fewer
-// than 320 bytes is refused and stays as it was; the bytes after the line stay in any case.
+// The CUT line of a branch set and a node vector, with its byte 10.
+pub fn line_of(branches: u64, nodes: u32) -> Line
+    ensures { result.bytes ≡ cut_line branches nodes }
+{
+    let mut line = Line::new();
+    line.push_str("CUT");
+    push_members(&mut line, BranchSet::from(branches), 64);
+    line.push_str(" /");
+    push_members(&mut line, BranchSet::from(u64::from(nodes)), 32);
+    line.push('\n');
+    line
+}
+
+// Writes the CUT line into a buffer, and answers its length. A buffer of fewer than 320 bytes is refused and stays as it
+// was; the bytes after the line stay in any case.
 pub fn write_cut(out: &mut [u8], branches: u64, nodes: u32) -> Result<usize, StudyFault>
     ensures answer { result ≡ cut_length branches nodes (length out.old) }
     ensures bytes { out.new ≡ cut_written branches nodes out.old }
@@ -58,9 +61,8 @@ pub fn write_cut(out: &mut [u8], branches: u64, nodes: u32) -> Result<usize, Stu
     if out.len() < 320 {
         return Err(StudyFault::Buffer);
     }
-    let at = put_bytes(out, 0, b"CUT");
-    let at = put_members(out, at, branches, 64);
-    let at = put_bytes(out, at, b" /");
-    let at = put_members(out, at, u64::from(nodes), 32);
-    Ok(put_bytes(out, at, b"\n"))
+    let line = line_of(branches, nodes);
+    let bytes = line.as_str().as_bytes();
+    out[..bytes.len()].copy_from_slice(bytes);
+    Ok(bytes.len())
 }

@@ -1,5 +1,5 @@
 -- The doors of the lines and those of the entries.
-use Rattle.std.proofs.Common.{◌≡◌, ℕ, ◌+◌, true, false, eqb, List, [], ◌∷◌, ◌++◌, map, length, take, drop, Some, None, Ok, Err, Option, Result, sym, refl, ap, ◌∙◌, append_assoc, append-nil, arith}
+use Rattle.std.proofs.Common.{◌≡◌, ℕ, ◌+◌, List, [], ◌∷◌, ◌++◌, length, Some, None, Ok, Err, Option, Result, sym, refl, ap, ◌∙◌, append_assoc, append-nil, arith}
 use Rattle.refusals.specs.declared.deck_fault.DeckFault.{DeckFault}
 use Rattle.network.specs.Questions.{Answer}
 use Rattle.deck.specs.Words.{words}
@@ -7,8 +7,6 @@ use Rattle.deck.specs.Cards.{Keyword, nodes, branch, failed, working, door, Read
 use Rattle.deck.specs.Decks.{Entry, nodes_are, branch_is, mark_is, door_is, entry_of, card_after, counted, entry_asked, read_cards, read_bytes, read_if, bytes_asked}
 use Rattle.deck.specs.Doorways.{door_on, before, doors_in, doors_of}
 use Rattle.deck.specs.Drafts.{Untitled}
-use Rattle.std.proofs.lemmas.Bool.{eqb-true, eqb-false}
-use Rattle.deck.proofs.Pieces.{First, next-line}
 use Rattle.deck.proofs.Steps.{answer, from-turn, from-entered, from-ended}
 use Rattle.deck.proofs.Titles.{untitled-card}
 
@@ -59,13 +57,3 @@ doors-agree bs places es h = read-doors (bytes_asked places bs) (cards bs) es h
 
 pub untitled-door : (bs : List ℕ) → Untitled bs → None ≡ door_on (card_on (words bs))
 untitled-door bs un = sym (ap door_on (untitled-card bs un))
-
--- one line more, with the door o or without one
-pub doors-more : (start bs line after : List ℕ) (k : ℕ) (o : Option ℕ) → First 10 bs k → false ≡ eqb (length bs) 0 → line ≡ take k bs → after ≡ drop (k + 1) bs →
-    start ≡ doors_in (cards bs) → o ≡ door_on (card_on (words line)) → start ≡ before o (doors_in (cards after))
-doors-more start bs line after k o f some l a h is =
-    h ∙ ap (λ ls. doors_in (map (λ t. card_on (words t)) ls)) (next-line bs k f (omega (arith, eqb-false (length bs) 0 (sym some)))) ∙ sym (λ i. before ((is ∙ ap (λ t. door_on (card_on (words t))) l) i) (doors_in (cards (a i))))
-
-pub doors-end : (start bs : List ℕ) → start ≡ doors_in (cards bs) → true ≡ eqb (length bs) 0 → start ≡ []
-doors-end start [] h e = h
-doors-end start (c ∷ cs) h e = absurd (omega (arith, eqb-true (length (c ∷ cs)) 0 (sym e)))

@@ -1,6 +1,6 @@
 -- The first word of a line and the rest.
-use Rattle.std.proofs.Common.{◌≡◌, ℕ, zero, suc, ◌+◌, ◌-◌, ◌<◌, ◌≤◌, true, false, eqb, List, [], ◌∷◌, ◌++◌, length, get_or, take, drop, set, Some, None, Option, sym, refl, ap, ◌∙◌, append_assoc, append-nil, arith}
-use Rattle.std.proofs.lemmas.List.{take_rest, take_more_set, take_all}
+use Rattle.std.proofs.Common.{◌≡◌, ℕ, zero, suc, ◌+◌, ◌-◌, ◌<◌, ◌≤◌, true, false, eqb, List, [], ◌∷◌, ◌++◌, length, get_or, take, drop, set, Some, None, Option, sym, refl, ap, ◌∙◌, append_assoc, append-nil, arith, length-drop}
+use Rattle.std.proofs.lemmas.List.{drop-drop, take_rest, take_more_set, take_all}
 use Rattle.std.proofs.lemmas.Bool.{eq-eqb, ne_eqb, eqb-true, eqb-false, cond_both}
 use Rattle.deck.specs.Words.{onto, words, lines, number_of, numbers_in, prefixed}
 use Rattle.deck.specs.Drafts.{ends_word, tail_words}
@@ -45,7 +45,7 @@ first-line (c ∷ cs) (suc k) f l =
     rw (e, more, shift)
 
 -- the same where byte 10 may lack at the end of the last line
-pub next-line : (bs : List ℕ) (k : ℕ) → First 10 bs k → 0 < length bs → lines bs ≡ take k bs ∷ lines (drop (k + 1) bs)
+next-line : (bs : List ℕ) (k : ℕ) → First 10 bs k → 0 < length bs → lines bs ≡ take k bs ∷ lines (drop (k + 1) bs)
 next-line [] k f l = absurd (omega arith)
 next-line (c ∷ cs) zero f l = let e = eq-eqb c 10 (f.found l) in rw e
 next-line (c ∷ []) (suc zero) f l = let e = ne_eqb c 10 (f.before 0 (omega arith)) in rw e
@@ -55,6 +55,14 @@ next-line (c ∷ d ∷ cs) (suc k) f l =
     let more = next-line (d ∷ cs) k (first_tail 10 c (d ∷ cs) k f) (omega arith) in
     let shift : suc k + 1 ≡ suc (k + 1) = omega arith in
     rw (e, more, shift)
+
+-- the first line of what an iterator has left
+pub next_lines : (rest line after : List ℕ) (k : ℕ) → k ≤ length rest → ((j : ℕ) → j < k → get_or rest j 0 ≡ 10 → ⊥) → (k < length rest → get_or rest k 0 ≡ 10) → false ≡ eqb (length rest) 0
+    → line ≡ take k rest → after ≡ drop 1 (drop k rest) → (lines rest ≡ line ∷ lines after) × (length after + 1 ≤ length rest)
+next_lines rest line after k within before found some l a =
+    let long = eqb-false (length rest) 0 (sym some) in
+    let gone : after ≡ drop (k + 1) rest = a ∙ drop-drop 1 k rest in
+    (next-line rest k (record { within = within; before = before; found = found }) (omega arith) ∙ sym (λ i. l i ∷ lines (gone i)), omega (arith, ap length gone, length-drop (k + 1) rest))
 
 tail-words : (rest : List ℕ) → 1 ≤ length rest → tail_words rest ≡ words (take (length rest - 1) (drop 1 rest))
 tail-words [] l = absurd (omega arith)

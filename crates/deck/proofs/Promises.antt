@@ -18,6 +18,8 @@ use Rattle.deck.proofs.Plans.{plan-back, plan-writable, shown-parts}
 use Rattle.deck.proofs.Decided.{up-to-the-line, table_kept}
 use Rattle.deck.proofs.Only.{some-plan}
 use Rattle.deck.proofs.Accepted.{accepted-is-taken}
+use Rattle.deck.specs.Refusing.{deck_questions, first_no_on, refusal_on}
+use Rattle.deck.proofs.Firsts.{deck-first}
 
 -- the cards of a sound plan's text
 written-cards : (plan : Plan) → Sound plan → cards (written plan) ≡ map shown (plan_cards plan)
@@ -110,3 +112,6 @@ door-laws bs = record {
   doors_of_a_written_plan = λ plan s is. plan-doors bs plan s (ap cards is);
   doors_of_its_cards = plan-doors bs;
 }
+
+pub deck-refusal : (bs : List ℕ) (places : ℕ) (answer : Result Deck DeckRefusal) → answer ≡ deck_read (read_bytes places bs) → refusal_on answer ≡ first_no_on (deck_questions places bs)
+deck-refusal bs places answer a = ap refusal_on a ∙ deck-first places bs

@@ -1,5 +1,5 @@
 -- The doors of a deck.
-use Rattle.std.specs.Prelude.{◌≡◌, ℕ, List, [], ◌∷◌, ◌++◌, Some, None, Option, MatchOption, slice_index}
+use Rattle.std.specs.Prelude.{ℕ, List, [], ◌∷◌, ◌++◌, Some, None, Option, slice_index}
 use Rattle.deck.specs.Cards.{nodes, branch, failed, working, door, Reading, unknown, card}
 use Rattle.deck.specs.Decks.{Entry, nodes_are, branch_is, mark_is, door_is}
 
@@ -29,7 +29,3 @@ doors_of (nodes_are n h ∷ es) = doors_of es
 doors_of (branch_is b ∷ es) = doors_of es
 doors_of (mark_is k c ∷ es) = doors_of es
 doors_of (door_is d ∷ es) = doors_of es ++ d ∷ []
-
--- the answer is the first of the doors ds, and rest are those after it; no answer where there are none, then or later
-abbrev pub NextDoor : List ℕ → Option ℕ → List ℕ → Type 0
-NextDoor ds answer rest = MatchOption answer ((ds ≡ []) × (rest ≡ [])) (λ d. ds ≡ d ∷ rest)

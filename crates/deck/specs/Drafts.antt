@@ -1,10 +1,11 @@
 -- The reader's inner bookkeeping: how it stands between two bytes, two words and two lines. Only private contracts cite it,
 -- so what a deck means can be read without it.
-use Rattle.std.specs.Prelude.{◌≡◌, ℕ, suc, ◌+◌, ◌≤◌, Bool, true, cond, List, [], ◌∷◌, ◌++◌, length, take, Some, None, Ok, Err, Option, Result, MatchOption, ◌==◌, slice_index}
+use Rattle.std.specs.Prelude.{◌≡◌, ℕ, suc, ◌+◌, ◌≤◌, Bool, true, cond, List, [], ◌∷◌, ◌++◌, length, Some, None, Ok, Err, Option, Result, MatchOption, ◌==◌, slice_index}
 use Rattle.std.specs.Borrow.{Bor}
 use Rattle.refusals.specs.declared.deck_fault.DeckFault.{DeckFault}
 use Rattle.refusals.specs.declared.deck_fault.DeckFault.TheVariants.{Turn}
 use Rattle.refusals.specs.declared.deck_fault.DeckRefusal.{DeckRefusal}
+use Rattle.arrayvec.specs.ArrayVec.{array_vec_len}
 use Rattle.network.specs.Questions.{Answer}
 use Rattle.network.specs.declared.branch.Condition.{Condition}
 use Rattle.deck.specs.Words.{words, numbers_in, prefixed}
@@ -89,19 +90,21 @@ pub record Holds (d : Draft) (es : List Entry) : Type 0 where
   pub section : rank d.section ≡ last_turn es
   pub nodes : d.nodes ≡ nodes_in es
   pub head : d.head ≡ head_in es
-  pub count : d.count ≡ length (branches_in es)
-  pub few : d.count ≤ 64
-  pub places : length d.rows ≡ 64
-  pub rows : take d.count d.rows ≡ branches_in es
+  pub few : array_vec_len d.rows ≤ 64
+  pub rows : d.rows.items ≡ branches_in es
   pub door : d.door ≡ first_door es
 
 abbrev pub held_deck : Draft → Deck
-held_deck d = record { nodes = d.nodes; head = d.head; branches = d.count; door_line = d.door }
+held_deck d = record { nodes = d.nodes; head = d.head; branches = array_vec_len d.rows; door_line = d.door }
 
 -- the answer r and the draft afterwards are those of the next line
 abbrev pub Next : List Entry → Result Entry DeckFault → Answer DeckFault → Draft → Type 0
 Next es (Ok e) r after = (r ≡ Ok tt) × Holds after (e ∷ es)
 Next es (Err f) r after = r ≡ Err f
+
+-- a card, on whatever line
+abbrev pub TakesAnywhere : Draft → Keyword → List (List ℕ) → Answer DeckFault → Draft → Type 0
+TakesAnywhere before k ws r after = (es : List Entry) → Holds before es → Next es (card_after es (cards.card k (numbers_in (numbers_for k) ws))) r after
 
 -- a card on the next line
 abbrev pub Takes : Draft → Keyword → ℕ → List (List ℕ) → Answer DeckFault → Draft → Type 0
@@ -111,12 +114,12 @@ Takes before k line ws r after = (es : List Entry) → Holds before es → line 
 abbrev pub TakesLine : Draft → ℕ → List ℕ → Answer DeckFault → Draft → Type 0
 TakesLine before line bs r after = (es : List Entry) → Holds before es → line ≡ length es + 1 → Next es (card_after es (card_on (words bs))) r after
 
--- a mark on the next line: the cards FAILED and WORKING are cases of it
+-- a mark, on whatever line: the cards FAILED and WORKING are cases of it
 abbrev pub mark_after : List Entry → Condition → List (List ℕ) → Result Entry DeckFault
 mark_after es c ws = cond (follows (last_turn es) 3) (counted es (λ ns. mark_is (slice_index ns 0) c) (numbers_in 1 ws)) (Err Turn)
 
-abbrev pub TakesMark : Draft → Condition → ℕ → List (List ℕ) → Answer DeckFault → Draft → Type 0
-TakesMark before c line ws r after = (es : List Entry) → Holds before es → line ≡ length es + 1 → Next es (mark_after es c ws) r after
+abbrev pub TakesMark : Draft → Condition → List (List ℕ) → Answer DeckFault → Draft → Type 0
+TakesMark before c ws r after = (es : List Entry) → Holds before es → Next es (mark_after es c ws) r after
 
 -- a draft that holds the entries of all lines, or their refusal
 abbrev pub ReadTo : Result (List Entry) DeckRefusal → Result Draft DeckRefusal → Type 0

@@ -4,3 +4,5 @@ pub mod Decks
 pub mod Doorways
 pub mod Laws
 pub mod Drafts
+pub mod Left
+pub mod Refusing

@@ -4,16 +4,17 @@ ghost use Rattle.refusals.specs.declared.deck_fault.DeckFault.TheVariants.{Word}
 ghost use Rattle.deck.specs.Cards.{failed, working, door};
 ghost use Rattle.deck.specs.Drafts.{ends_word, Lacks, Titled, Untitled};
 
+use crate::line::Line;
 use refusals::deck_fault::DeckFault;
 
 // Each case holds the line's number and what follows its first word.
 #[derive(Clone, Copy, Debug)]
 pub(crate) enum Card<'a> {
-    Nodes { line: u32, numbers: &'a [u8] },
-    Branch { line: u32, numbers: &'a [u8] },
-    Failed { line: u32, numbers: &'a [u8] },
-    Working { line: u32, numbers: &'a [u8] },
-    Door { line: u32, numbers: &'a [u8] },
+    Nodes { line: usize, numbers: &'a [u8] },
+    Branch { line: usize, numbers: &'a [u8] },
+    Failed { line: usize, numbers: &'a [u8] },
+    Working { line: usize, numbers: &'a [u8] },
+    Door { line: usize, numbers: &'a [u8] },
 }
 
 // Does a word end where these bytes begin?
@@ -24,12 +25,16 @@ fn ends_word(rest: &[u8]) -> bool
 }
 
 // The card of a line that begins with FAILED, WORKING or DOOR.
-fn mark_or_door(bytes: &[u8], line: u32) -> Result<Card<'_>, DeckFault>
+fn mark_or_door(line: Line<'_>) -> Result<Card<'_>, DeckFault>
     ensures { MatchResult
         result
-        (λ found. Titled bytes.now line found)
-        (λ fault. (fault ≡ Word) × (Lacks failed bytes.now × Lacks working bytes.now × Lacks door bytes.now)) }
+        (λ found. Titled line.entry.bytes.now line.entry.number found)
+        (λ fault. (fault ≡ Word) × (Lacks failed line.entry.bytes.now × Lacks working line.entry.bytes.now × Lacks door line.entry.bytes.now)) }
 {
+    let Line {
+        number: line,
+        bytes,
+    } = line;
     match bytes {
         [b'F', b'A', b'I', b'L', b'E', b'D', numbers @ ..] if ends_word(numbers) => Ok(
             Card::Failed { line, numbers },
@@ -46,17 +51,24 @@ fn mark_or_door(bytes: &[u8], line: u32) -> Result<Card<'_>, DeckFault>
 }
 
 // The card of a line that begins with one of the five words.
-pub(crate) fn card_of(bytes: &[u8], line: u32) -> Result<Card<'_>, DeckFault>
-    ensures { MatchResult result (λ found. Titled bytes.now line found) (λ fault. (fault ≡ Word) × Untitled bytes.now) }
+pub(crate) fn card_of(line: Line<'_>) -> Result<Card<'_>, DeckFault>
+    ensures { MatchResult
+        result
+        (λ found. Titled line.entry.bytes.now line.entry.number found)
+        (λ fault. (fault ≡ Word) × Untitled line.entry.bytes.now) }
 {
+    let Line { number, bytes } = line;
     match bytes {
         [b'N', b'O', b'D', b'E', b'S', numbers @ ..] if ends_word(numbers) => Ok(Card::Nodes {
-            line,
+            line: number,
             numbers,
         }),
         [b'B', b'R', b'A', b'N', b'C', b'H', numbers @ ..] if ends_word(numbers) => Ok(
-            Card::Branch { line, numbers },
+            Card::Branch {
+                line: number,
+                numbers,
+            },
         ),
-        _ => mark_or_door(bytes, line),
+        _ => mark_or_door(line),
     }
 }

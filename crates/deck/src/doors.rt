@@ -1,24 +1,27 @@
 // The doors of a deck, one after the other.
-ghost use Rattle.std.specs.Prelude.{◌≡◌, drop};
+ghost use Rattle.std.specs.Prelude.{◌≡◌};
+ghost use Rattle.std.specs.Iterator.{YieldsFirst, item_count};
 ghost use Rattle.deck.specs.Words.{words};
 ghost use Rattle.deck.specs.Cards.{card_on, cards};
 ghost use Rattle.deck.specs.Laws.{DoorLaws};
-ghost use Rattle.deck.specs.Doorways.{door_on, doors_in, NextDoor};
+ghost use Rattle.deck.specs.Doorways.{door_on, doors_in};
+ghost use Rattle.deck.specs.Left.{doors_left};
 
 use crate::card::{Card, card_of};
-use crate::words::{find, numbers};
+use crate::line::{Line, Lines};
+use crate::words::numbers;
 
-// Goes through the bytes of a deck, from line to line.
-#[derive(Clone, Copy)]
+// Goes through the lines of a deck.
+#[derive(Clone, Copy, Debug)]
 pub struct Doors<'a> {
-    rest: &'a [u8],
+    lines: Lines<'a>,
 }
 
 // The door of a line that is a DOOR card.
-fn door_of(line: &[u8]) -> Option<u32>
-    ensures { result ≡ door_on (card_on (words line.now)) }
+fn door_of(line: Line<'_>) -> Option<u32>
+    ensures { result ≡ door_on (card_on (words line.entry.bytes.now)) }
 {
-    match card_of(line, 0) {
+    match card_of(line) {
         Ok(
             Card::Door {
                 line: _,
@@ -33,32 +36,27 @@ fn door_of(line: &[u8]) -> Option<u32>
     }
 }
 
-// All bytes but the first.
-fn tail(bytes: &[u8]) -> &[u8]
-    ensures { result.now ≡ drop 1 bytes.now }
-{
-    match bytes {
-        [] => bytes,
-        [_, rest @ ..] => rest,
-    }
-}
-
 impl<'a> Doors<'a> {
     // The doors of a deck, from the first on: those of its entries if it is accepted, so those of its plan.
     pub fn new(bytes: &'a [u8]) -> Doors<'a>
-        ensures whole { result.rest.now ≡ bytes.now }
+        ensures whole { doors_left result ≡ doors_in (cards bytes.now) }
         ensures laws { DoorLaws bytes.now }
     {
-        Doors { rest: bytes }
+        Doors {
+            lines: Lines::new(bytes),
+        }
     }
+}
 
-    // The next door.
-    pub fn next_door(&mut self) -> Option<u32>
-        ensures { NextDoor (doors_in (cards self.old.rest.now)) result (doors_in (cards self.new.rest.now)) }
-    {
-        while !self.rest.is_empty() {
-            let (line, after) = self.rest.split_at(find(self.rest, b'\n'));
-            self.rest = tail(after);
+impl<'a> Iterator for Doors<'a> {
+    type Item = u32;
+
+    ghost next_gives = { YieldsFirst doors_left };
+
+    ghost remaining = { item_count doors_left };
+
+    fn next(&mut self) -> Option<u32> {
+        while let Some(line) = self.lines.next() {
             if let Some(door) = door_of(line) {
                 return Some(door);
             }

@@ -1,14 +1,16 @@
 // A deck as it is read, card by card.
-ghost use Rattle.std.specs.Prelude.{◌≡◌, ◌≤◌, true, [], ◌++◌, length, take, drop, ◌==◌};
+ghost use Rattle.std.specs.Prelude.{◌≡◌, ◌≤◌, true, [], ◌++◌, length, drop, ◌==◌};
+ghost use Rattle.arrayvec.specs.ArrayVec.{array_vec_len};
 ghost use Rattle.network.specs.Questions.{asked};
 ghost use Rattle.refusals.specs.declared.deck_fault.DeckFault.TheVariants.{Turn};
 ghost use Rattle.deck.specs.Cards.{nodes as nodes_word, branch as branch_word, door as door_word};
 ghost use Rattle.deck.specs.Decks.{follows, plan_asked};
-ghost use Rattle.deck.specs.Drafts.{ends_word, tail_words, keyword_of, numbers_of, line_of, rank, Holds, Takes, TakesMark, held_deck};
+ghost use Rattle.deck.specs.Drafts.{ends_word, tail_words, keyword_of, numbers_of, line_of, rank, Holds, Takes, TakesAnywhere, TakesMark, held_deck};
 
 use crate::card::Card;
 use crate::reader::Deck;
 use crate::words::numbers;
+use arrayvec::ArrayVec;
 use network::branch::{Condition, TableRow};
 use network::questions::{check_branch_count, check_head, check_nodes, check_row};
 use refusals::deck_fault::DeckFault;
@@ -50,14 +52,13 @@ fn check_plan(nodes: u32, head: u32) -> Result<(), StudyFault>
 }
 
 // The cards taken so far: the rows of the branches with their marks, and the line of the first door, 0 before there is one.
-#[derive(Clone, Copy)]
+#[derive(Drop)]
 pub(crate) struct Draft {
     section: Section,
     nodes: u32,
     head: u32,
-    count: u32,
     door: u32,
-    rows: [TableRow; 64],
+    rows: ArrayVec<TableRow, 64>,
 }
 
 impl Draft {
@@ -68,15 +69,14 @@ impl Draft {
             section: Section::Start,
             nodes: 0,
             head: 0,
-            count: 0,
             door: 0,
-            rows: [TableRow::BLANK; 64],
+            rows: ArrayVec::new(),
         }
     }
 
-    fn put_nodes(&mut self, line: u32, words: &[u8]) -> Result<(), DeckFault>
+    fn put_nodes(&mut self, words: &[u8]) -> Result<(), DeckFault>
         requires { ends_word words.now ≡ true }
-        ensures { Takes self.old nodes_word line (tail_words words.now) result self.new }
+        ensures { TakesAnywhere self.old nodes_word (tail_words words.now) result self.new }
     {
         if !self.section.may_precede(Section::Nodes) {
             return Err(DeckFault::Turn);
@@ -89,10 +89,9 @@ impl Draft {
         Ok(())
     }
 
-    fn put_branch(&mut self, line: u32, words: &[u8]) -> Result<(), DeckFault>
-        requires words { ends_word words.now ≡ true }
-        requires few { self.old.count ≤ 64 }
-        ensures { Takes self.old branch_word line (tail_words words.now) result self.new }
+    fn put_branch(&mut self, words: &[u8]) -> Result<(), DeckFault>
+        requires { ends_word words.now ≡ true }
+        ensures { TakesAnywhere self.old branch_word (tail_words words.now) result self.new }
     {
         if !self.section.may_precede(Section::Branches) {
             return Err(DeckFault::Turn);
@@ -105,33 +104,34 @@ impl Draft {
             exponent,
             condition: Condition::Able,
         };
-        check_branch_count(self.count as usize + 1)?;
-        check_row(self.nodes, self.count, &row)?;
-        self.rows[self.count as usize] = row;
-        self.count += 1;
+        let count = self.rows.len();
+        check_branch_count(count + 1)?;
+        check_row(self.nodes, count as u32, &row)?;
+        self.rows.push(row);
         self.section = Section::Branches;
         Ok(())
     }
 
-    fn put_mark(&mut self, line: u32, words: &[u8], condition: Condition) -> Result<(), DeckFault>
-        requires words { ends_word words.now ≡ true }
-        requires few { self.old.count ≤ 64 }
-        ensures { TakesMark self.old condition line (tail_words words.now) result self.new }
+    fn put_mark(&mut self, words: &[u8], condition: Condition) -> Result<(), DeckFault>
+        requires { ends_word words.now ≡ true }
+        ensures { TakesMark self.old condition (tail_words words.now) result self.new }
     {
         if !self.section.may_precede(Section::Marks) {
             return Err(DeckFault::Turn);
         }
         let [k] = numbers::<1>(words).ok_or(DeckFault::Numbers)?;
-        if k >= self.count {
+        let k = k as usize;
+        if k >= self.rows.len() {
             return Err(DeckFault::Mark);
         }
-        self.rows[k as usize].condition = condition;
+        self.rows[k].condition = condition;
         self.section = Section::Marks;
         Ok(())
     }
 
-    fn put_door(&mut self, line: u32, words: &[u8]) -> Result<(), DeckFault>
-        requires { ends_word words.now ≡ true }
+    fn put_door(&mut self, line: usize, words: &[u8]) -> Result<(), DeckFault>
+        requires words { ends_word words.now ≡ true }
+        requires small { line ≤ 65536 }
         ensures { Takes self.old door_word line (tail_words words.now) result self.new }
     {
         if !self.section.may_precede(Section::Doors) {
@@ -139,7 +139,7 @@ impl Draft {
         }
         let [_] = numbers::<1>(words).ok_or(DeckFault::Numbers)?;
         if self.door == 0 {
-            self.door = line;
+            self.door = line as u32;
         }
         self.section = Section::Doors;
         Ok(())
@@ -148,7 +148,7 @@ impl Draft {
     // The next card of the deck.
     pub(crate) fn put(&mut self, card: Card<'_>) -> Result<(), DeckFault>
         requires words { ends_word (numbers_of card) ≡ true }
-        requires few { self.old.count ≤ 64 }
+        requires small { line_of card ≤ 65536 }
         ensures { Takes
             self.old
             (keyword_of card.entry)
@@ -158,10 +158,10 @@ impl Draft {
             self.new }
     {
         match card {
-            Card::Nodes { line, numbers } => self.put_nodes(line, numbers),
-            Card::Branch { line, numbers } => self.put_branch(line, numbers),
-            Card::Failed { line, numbers } => self.put_mark(line, numbers, Condition::Failed),
-            Card::Working { line, numbers } => self.put_mark(line, numbers, Condition::Working),
+            Card::Nodes { line: _, numbers } => self.put_nodes(numbers),
+            Card::Branch { line: _, numbers } => self.put_branch(numbers),
+            Card::Failed { line: _, numbers } => self.put_mark(numbers, Condition::Failed),
+            Card::Working { line: _, numbers } => self.put_mark(numbers, Condition::Working),
             Card::Door { line, numbers } => self.put_door(line, numbers),
         }
     }
@@ -182,18 +182,16 @@ impl Draft {
         Deck {
             nodes: self.nodes,
             head: self.head,
-            branches: self.count,
+            branches: self.rows.len() as u32,
             door_line: self.door,
         }
     }
 
     // Writes the rows into a table; its later places stay.
     pub(crate) fn fill(&self, table: &mut [TableRow])
-        requires few { self.now.count ≤ 64 }
-        requires room { self.now.count ≤ length table.old }
-        ensures { table.new ≡ take self.now.count self.now.rows ++ drop self.now.count table.old }
+        requires { array_vec_len self.now.rows ≤ length table.old }
+        ensures { table.new ≡ self.now.rows.items ++ drop (array_vec_len self.now.rows) table.old }
     {
-        let n = self.count as usize;
-        table[0..n].copy_from_slice(&self.rows[0..n]);
+        table[..self.rows.len()].copy_from_slice(self.rows.as_slice());
     }
 }

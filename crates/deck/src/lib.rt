@@ -4,5 +4,6 @@
 mod card;
 pub mod doors;
 mod draft;
+mod line;
 pub mod reader;
 mod words;

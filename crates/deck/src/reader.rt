@@ -1,15 +1,16 @@
 // Reading a whole deck into a caller's table.
-ghost use Rattle.std.specs.Prelude.{◌≡◌, ◌≤◌, true, [], length};
+ghost use Rattle.std.specs.Prelude.{◌≡◌, ◌≤◌, [], length};
 ghost use Rattle.deck.specs.Cards.{cards};
-ghost use Rattle.deck.specs.Decks.{read_cards, read_bytes, ends_line, deck_read, table_after, bytes_asked};
+ghost use Rattle.deck.specs.Decks.{read_cards, read_bytes, deck_read, table_after, bytes_asked};
+ghost use Rattle.deck.specs.Refusing.{deck_questions, first_no_on, refusal_on};
 ghost use Rattle.deck.specs.Laws.{DeckLaws};
 ghost use Rattle.deck.specs.Drafts.{ReadTo, TakesLine};
 
 use crate::card::card_of;
 use crate::draft::Draft;
-use crate::words::find;
+use crate::line::{Line, Lines};
 use network::branch::TableRow;
-use refusals::deck_fault::{DeckFault, DeckRefusal, at_line};
+use refusals::deck_fault::{DeckFault, DeckRefusal};
 
 // What an accepted deck answers; door_line is the line of its first DOOR card.
 #[derive(Clone, Copy, Debug, PartialEq, Eq)]
@@ -21,29 +22,26 @@ pub struct Deck {
 }
 
 // One line more in the draft.
-fn read_line(draft: &mut Draft, bytes: &[u8], line: u32) -> Result<(), DeckFault>
-    requires { draft.old.count ≤ 64 }
-    ensures { TakesLine draft.old line bytes.now result draft.new }
+fn read_line(draft: &mut Draft, line: Line<'_>) -> Result<(), DeckFault>
+    requires { line.number ≤ 65536 }
+    ensures { TakesLine draft.old line.entry.number line.entry.bytes.now result draft.new }
 {
-    draft.put(card_of(bytes, line)?)
+    draft.put(card_of(line)?)
 }
 
 // The draft of all lines.
 fn read_lines(bytes: &[u8]) -> Result<Draft, DeckRefusal>
-    requires short { length bytes.now ≤ 65536 }
-    requires ends { ends_line bytes.now ≡ true }
+    requires { length bytes.now ≤ 65536 }
     ensures { ReadTo (read_cards [] (cards bytes.now)) result }
 {
     let mut draft = Draft::new();
-    let mut rest = bytes;
-    let mut line = 1;
-    while !rest.is_empty() {
-        let (this, after) = rest.split_at(find(rest, b'\n'));
-        at_line(read_line(&mut draft, this, line), line)?;
-        rest = &after[1..];
-        line += 1;
+    let mut lines = Lines::new(bytes);
+    while let Some(line) = lines.next() {
+        let number = line.number as u32;
+        read_line(&mut draft, line).map_err(|fault| fault.at(number))?;
     }
-    at_line(draft.complete(), line)?;
+    let number = lines.number as u32;
+    draft.complete().map_err(|fault| fault.at(number))?;
     Ok(draft)
 }
 
@@ -61,14 +59,15 @@ fn check_bytes(bytes: &[u8], places: usize) -> Result<(), DeckFault>
 }
 
 // Reads a deck. Its branches are written into the table once the deck is accepted, and later places stay; a refusal leaves
-// the table as it was. The deck of a plan gives the plan back, nothing else is accepted, and decks with the same cards are
+// the table as it was, and is that of the first question answered no. The deck of a plan gives the plan back, nothing else is accepted, and decks with the same cards are
 // answered alike.
 pub fn read_deck(bytes: &[u8], table: &mut [TableRow]) -> Result<Deck, DeckRefusal>
     ensures answer { result ≡ deck_read (read_bytes (length table.old) bytes.now) }
     ensures filled { table.new ≡ table_after (read_bytes (length table.old) bytes.now) table.old }
+    ensures refusal { refusal_on result ≡ first_no_on (deck_questions (length table.old) bytes.now) }
     ensures laws { DeckLaws bytes.now table.old result table.new }
 {
-    at_line(check_bytes(bytes, table.len()), 0)?;
+    check_bytes(bytes, table.len()).map_err(|fault| fault.at(0))?;
     let draft = read_lines(bytes)?;
     draft.fill(table);
     Ok(draft.deck())

@@ -1,23 +1,23 @@
 // Words and numbers of a line.
 ghost use Rattle.std.specs.Prelude.{◌≡◌, ℕ, ◌<◌, ◌≤◌, true, length, ◌≢◌, slice_index};
+ghost use Rattle.std.specs.Str.{all_ascii_digits};
 ghost use Rattle.deck.specs.Words.{number_of, numbers_in};
 ghost use Rattle.deck.specs.Drafts.{ends_word, tail_words, NextNumber};
+
+fn all_digits(word: &[u8]) -> bool
+    ensures { result ≡ all_ascii_digits word.now }
+{
+    word.iter().all(|c| c.is_ascii_digit())
+}
 
 // The number that a word of 1 to 10 decimal digits writes, where it fits 32 bits.
 fn number(word: &[u8]) -> Option<u32>
     ensures { result ≡ number_of word.now }
 {
-    if word.is_empty() || word.len() > 10 {
+    if word.is_empty() || word.len() > 10 || !all_digits(word) {
         return None;
     }
-    let mut value: u64 = 0;
-    for digit in word {
-        if !digit.is_ascii_digit() {
-            return None;
-        }
-        value = value * 10 + u64::from(*digit - b'0');
-    }
-    u32::try_from(value).ok()
+    str::from_utf8(word).unwrap().parse().ok()
 }
 
 // The index of the first byte that equals b, or the length where there is none.
@@ -26,12 +26,7 @@ pub(crate) fn find(bytes: &[u8], b: u8) -> usize
     ensures before { (k : ℕ) → k < result → slice_index bytes.now k ≢ b }
     ensures found { result < length bytes.now → slice_index bytes.now result ≡ b }
 {
-    for (i, x) in bytes.iter().enumerate() {
-        if *x == b {
-            return i;
-        }
-    }
-    bytes.len()
+    bytes.iter().position(|x| *x == b).unwrap_or(bytes.len())
 }
 
 // The number of the next word, and what follows that word. Each word stands after a space.

@@ -13,7 +13,7 @@ use Rattle.search.specs.Search.{linked}
 use Rattle.search.proofs.Portions.{linked-joined, joined-linked, larger-cuts}
 use Rattle.chance.specs.CutOff.{can_fail, able, AbleSet, every, able_set}
 use Rattle.chance.specs.Bracket.{Grows}
-use Rattle.engine.specs.Law.{parts}
+use Rattle.engine.specs.SoundRuns.{parts}
 
 every-at : (n : ℕ) (f : ℕ → Bool) → every n f ≡ true → (k : ℕ) → k < n → f k ≡ true
 unfolding every

@@ -1,11 +1,9 @@
 -- From one point of a run to the next: what is added, what stays, and what is counted.
 use Rattle.std.proofs.Common.{◌≡◌, ℕ, zero, suc, ◌+◌, ◌≤◌, true, false, List, [], ◌∷◌, ◌++◌, map, set, Some, None, Ok, Err, fold, Option, sym, refl, ap, ◌∙◌, subst, inl, inr, append_assoc, append-nil, arith}
 use mathlib.Core.List.{map-append}
-use Rattle.std.specs.List.{AllByRecursion}
 use Rattle.std.proofs.lemmas.Bool.{cases_Bool}
 use Rattle.sets.proofs.Members.{clash}
 use Rattle.refusals.specs.declared.study_fault.StudyFault.{StudyFault}
-use Rattle.network.specs.declared.rating.Rating.{Rating}
 use Rattle.network.specs.Meaning.{Net}
 use Rattle.network.specs.Questions.{Answer as Asked}
 use Rattle.search.specs.declared.row.Row.{Row}
@@ -14,13 +12,12 @@ use Rattle.search.specs.declared.status.Status.TheVariants.{Finished, Full, More
 use Rattle.search.specs.Search.{Search, branch_set, row_at, current, barring, written, tried, next, run}
 use Rattle.search.proofs.Sound.{by-status}
 use Rattle.search.proofs.Portions.{stands}
-use Rattle.scale.specs.Arithmetic.{Arithmetic}
 use Rattle.engine.specs.declared.call.Call.{Call}
-use Rattle.engine.specs.declared.call.Call.TheVariants.{Aim, Advance, Show, Bounds}
-use Rattle.engine.specs.declared.call.Answer.TheVariants as said
+use Rattle.engine.specs.declared.call.Call.TheVariants.{Aim, Advance, Show, Line, Bounds}
 use Rattle.engine.specs.Questions.{door_asked, budget_asked}
 use Rattle.engine.specs.Studies.{State, aim_asked, aimed_by, aim_from, progress_when, advance_of, advanced_when, advance_from, listed, is_finished, finished, called}
-use Rattle.engine.specs.Runs.{answer, answers, accepts_aim, with_tries}
+use Rattle.engine.specs.Stages.{head_of, door_of}
+use Rattle.engine.specs.Runs.{is_accepted, accepts_aim, NoAimAccepted, tries_after_aim, tries_after_advance, tries_after_call, tries_answered}
 
 pub finished-status : (t : Status) → is_finished t ≡ true → t ≡ Finished
 finished-status Finished e = refl
@@ -54,7 +51,7 @@ module _ (net : Net) (door : ℕ) where
       once = by-status (λ t. (more : List ℕ) × (listed net t ≡ listed net s ++ more)) net door s (λ _. (_, added s.rows)) ([], sym (append-nil _))
 
   -- tries are only added
-  tries-grow : (k : ℕ) (s : Search) → s.tries ≤ (run net door k s).tries
+  pub tries-grow : (k : ℕ) (s : Search) → s.tries ≤ (run net door k s).tries
   unfolding run
   tries-grow zero s = omega arith
   tries-grow (suc k) s =
@@ -95,33 +92,34 @@ module _ (net : Net) (door : ℕ) where
 
   -- the door stays, and the search goes on
   abbrev pub Follows : State → State → Type 0
-  Follows s t = (t.door ≡ Some door) × Later s.search t.search
+  Follows s t = (door_of t.stage ≡ Some door) × Later s.search t.search
 
-module _ {Num : Type 0} (net : Net) (ratings : List Rating) (scale : Arithmetic Num) where
+module _ (net : Net) where
   module _ (door : ℕ) where
-    follows-aim : (s : State) → s.door ≡ Some door → (d : ℕ) (h : Option ℕ) → accepts_aim {Num = Num} (said.Aim (aim_asked net h d)) ≡ false → Follows net door s (aim_from net h d s)
+    follows-aim : (s : State) → door_of s.stage ≡ Some door → (d : ℕ) (h : Option ℕ) → is_accepted (aim_asked net h d) ≡ false → Follows net door s (aim_from net h d s)
     follows-aim s e d None n = (e, later_same net door s.search)
     follows-aim s e d (Some head) n = go (door_asked net head d) n
       where
-        go : (q : Asked StudyFault) → accepts_aim {Num = Num} (said.Aim q) ≡ false → Follows net door s (aimed_by net head d s q)
+        go : (q : Asked StudyFault) → is_accepted q ≡ false → Follows net door s (aimed_by net head d s q)
         go (Ok u) n = absurd (clash n refl)
         go (Err f) n = (e, later_same net door s.search)
 
-    follows-advance : (s : State) → s.door ≡ Some door → (k : ℕ) → Follows net door s (advance_from net s.door k s)
+    follows-advance : (s : State) → door_of s.stage ≡ Some door → (k : ℕ) → Follows net door s (advance_from net (door_of s.stage) k s)
     follows-advance s e k = subst (λ d. Follows net door s (advance_from net d k s)) (sym e) (go (budget_asked k))
       where
         go : (q : Asked StudyFault) → Follows net door s (advanced_when net door k s q)
         go (Ok u) = (e, later-run net door k s.search)
         go (Err f) = (e, later_same net door s.search)
 
-    follows-call : (s : State) → s.door ≡ Some door → (c : Call) → accepts_aim (answer net ratings scale s c) ≡ false → Follows net door s (called net s c)
-    follows-call s e (Aim d) n = follows-aim s e d s.head n
+    follows-call : (s : State) → door_of s.stage ≡ Some door → (c : Call) → accepts_aim net s c ≡ false → Follows net door s (called net s c)
+    follows-call s e (Aim d) n = follows-aim s e d (head_of s.stage) n
     follows-call s e (Advance k) n = follows-advance s e k
     follows-call s e (Show k) n = (e, later_same net door s.search)
-    follows-call s e Bounds n = (e, later_same net door s.search)
+    follows-call s e (Line k) n = (e, later_same net door s.search)
+    follows-call s e (Bounds which) n = (e, later_same net door s.search)
 
     -- while no aim is accepted
-    pub follows : (calls : List Call) (s : State) → s.door ≡ Some door → AllByRecursion (λ given. accepts_aim given ≡ false) (answers net ratings scale s calls) → Follows net door s (fold (called net) s calls)
+    pub follows : (calls : List Call) (s : State) → door_of s.stage ≡ Some door → NoAimAccepted net s calls → Follows net door s (fold (called net) s calls)
     follows [] s e h = (e, later_same net door s.search)
     follows (c ∷ calls) s e h =
         let t = called net s c in
@@ -130,28 +128,29 @@ module _ {Num : Type 0} (net : Net) (ratings : List Rating) (scale : Arithmetic 
         (rest.0, later-on net door s.search t.search (fold (called net) t calls).search one.1 rest.1)
 
   -- the tries that the answers tell are those of the search
-  counted-call : (s : State) (c : Call) → with_tries s.search.tries (answer net ratings scale s c) ≡ (called net s c).search.tries
-  counted-call s (Aim d) = go s.head
+  counted-call : (s : State) (c : Call) → tries_after_call net s s.search.tries c ≡ (called net s c).search.tries
+  counted-call s (Aim d) = go (head_of s.stage)
     where
-      by : (head : ℕ) (q : Asked StudyFault) → with_tries {Num = Num} s.search.tries (said.Aim q) ≡ (aimed_by net head d s q).search.tries
+      by : (head : ℕ) (q : Asked StudyFault) → tries_after_aim s.search.tries q ≡ (aimed_by net head d s q).search.tries
       by head (Ok u) = refl
       by head (Err f) = refl
 
-      go : (h : Option ℕ) → with_tries {Num = Num} s.search.tries (said.Aim (aim_asked net h d)) ≡ (aim_from net h d s).search.tries
+      go : (h : Option ℕ) → tries_after_aim s.search.tries (aim_asked net h d) ≡ (aim_from net h d s).search.tries
       go None = refl
       go (Some head) = by head (door_asked net head d)
-  counted-call s (Advance k) = go s.door
+  counted-call s (Advance k) = go (door_of s.stage)
     where
-      by : (door : ℕ) (q : Asked StudyFault) → with_tries {Num = Num} s.search.tries (said.Advance (progress_when net door k s.search q)) ≡ (advanced_when net door k s q).search.tries
+      by : (door : ℕ) (q : Asked StudyFault) → tries_after_advance s.search.tries (progress_when net door k s.search q) ≡ (advanced_when net door k s q).search.tries
       by door (Ok u) = omega (arith, tries-grow net door k s.search)
       by door (Err f) = refl
 
-      go : (d : Option ℕ) → with_tries {Num = Num} s.search.tries (said.Advance (advance_of net d k s.search)) ≡ (advance_from net d k s).search.tries
+      go : (d : Option ℕ) → tries_after_advance s.search.tries (advance_of net d k s.search) ≡ (advance_from net d k s).search.tries
       go None = refl
       go (Some door) = by door (budget_asked k)
   counted-call s (Show k) = refl
-  counted-call s Bounds = refl
+  counted-call s (Line k) = refl
+  counted-call s (Bounds which) = refl
 
-  pub counted : (calls : List Call) (s : State) (n : ℕ) → n ≡ s.search.tries → fold with_tries n (answers net ratings scale s calls) ≡ (fold (called net) s calls).search.tries
+  pub counted : (calls : List Call) (s : State) (n : ℕ) → n ≡ s.search.tries → tries_answered net s n calls ≡ (fold (called net) s calls).search.tries
   counted [] s n e = e
-  counted (c ∷ calls) s n e = counted calls (called net s c) (with_tries n (answer net ratings scale s c)) (ap (λ m. with_tries m (answer net ratings scale s c)) e ∙ counted-call s c)
+  counted (c ∷ calls) s n e = counted calls (called net s c) (tries_after_call net s n c) (ap (λ m. tries_after_call net s m c) e ∙ counted-call s c)

@@ -2,5 +2,6 @@ pub mod Listed
 pub mod Steps
 pub mod CutTests
 pub mod Later
-pub mod Lawful
-pub mod Points
+pub mod SoundRuns
+pub mod Runs
+pub mod Carried

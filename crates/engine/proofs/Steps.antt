@@ -1,5 +1,5 @@
 -- What an advance answers and leaves, from what its run of tries leaves.
-use Rattle.std.proofs.Common.{◌≡◌, ℕ, ◌+◌, ◌-◌, ◌^◌, ◌<◌, ◌≤◌, List, length, ap, ◌∙◌, ap₂, arith}
+use Rattle.std.proofs.Common.{◌≡◌, ℕ, ◌+◌, ◌-◌, ◌^◌, ◌<◌, ◌≤◌, List, length, ap, ◌∙◌, ap₂, inl, inr, arith}
 use Rattle.network.specs.Meaning.{Net, Legal}
 use Rattle.search.specs.declared.row.Row.{Row}
 use Rattle.search.specs.declared.status.Status.{Status}
@@ -8,6 +8,7 @@ use Rattle.search.specs.Barred.{all_barred}
 use Rattle.search.specs.Search.{Search, searched, status, run}
 use Rattle.search.specs.Tables.{rows_of}
 use Rattle.search.proofs.Paid.{paid-after, few-each}
+use Rattle.search.proofs.Portions.{run-counts}
 use Rattle.search.proofs.Tables.{few-rows}
 use Rattle.engine.specs.declared.progress.Progress.{Progress}
 use Rattle.engine.specs.Studies.{progress}
@@ -29,3 +30,9 @@ module _ {net : Net} (legal : Legal net) (door k : ℕ) (before later : Table) (
 
   pub sum_fits : t + r < 2 ^ 32
   sum_fits = omega (arith, still-paid, few-each (rows_of later), few-rows later)
+
+-- a run makes at most so many tries
+pub tries-within : (net : Net) (door k : ℕ) (s : Search) (made : Progress) → made ≡ progress net door k s → made.tries ≤ k
+tries-within net door k s made e =
+    let same = ap (λ (p : Progress). p.tries) e in
+    elim (run-counts net door k s) [ inl q ↦ omega arith | inr (q, stop) ↦ omega arith ]

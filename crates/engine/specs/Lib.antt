@@ -1,5 +1,6 @@
 pub mod Questions
+pub mod Stages
 pub mod Studies
 pub mod Runs
-pub mod Law
+pub mod SoundRuns
 pub mod Cases

@@ -16,22 +16,24 @@ use Rattle.chance.specs.declared.bounds.Bounds.{Bounds}
 use Rattle.chance.specs.Bounds.{low, high}
 use Rattle.cut_line.specs.Cuts.{cut_length, cut_written}
 use Rattle.engine.specs.declared.call.Call.{Call}
-use Rattle.engine.specs.declared.call.Call.TheVariants.{Aim, Advance, Show, Bounds as AskBounds}
+use Rattle.engine.specs.declared.call.Call.TheVariants.{Aim, Advance, Show, Line, Bounds as AskBounds}
 use Rattle.engine.specs.declared.progress.Progress.{Progress}
+use Rattle.engine.specs.declared.stage.Stage.{Stage}
+use Rattle.engine.specs.declared.stage.Stage.TheVariants.{Fresh, SetUp, Aimed}
 use Rattle.engine.specs.declared.study.Study.{Study}
 use Rattle.engine.specs.Questions.{door_asked, budget_asked}
+use Rattle.engine.specs.Stages.{head_of, door_of}
 
--- the head of the set-up, the door of the last accepted aim since then, and its search
+-- the head of the set-up with the door of the last accepted aim since then, and its search
 pub record State : Type 0 where
-  pub head : Option ℕ
-  pub door : Option ℕ
+  pub stage : Stage
   pub search : Search
 
 abbrev pub state_of : Study → State
-state_of s = record { head = s.head; door = s.door; search = searched (rows_of s.table) s.tries }
+state_of s = record { stage = s.stage; search = searched (rows_of s.table) s.tries }
 
 abbrev pub no_state : State
-no_state = record { head = None; door = None; search = searched [] 0 }
+no_state = record { stage = Fresh; search = searched [] 0 }
 
 -- a call that is refused leaves what it was handed as it was
 abbrev pub Kept : {A B : Type 0} → Result A StudyFault → B → B → Type 0
@@ -44,7 +46,7 @@ abbrev pub set_up_answer : Net → ℕ → Answer StudyFault
 set_up_answer net head = head_asked net.nodes head
 
 abbrev pub set_up_by : ℕ → State → Answer StudyFault → State
-set_up_by head s (Ok u) = record { head = Some head; door = None; search = searched [] 0 }
+set_up_by head s (Ok u) = record { stage = SetUp head; search = searched [] 0 }
 set_up_by head s (Err f) = s
 
 abbrev pub set_up : Net → ℕ → State → State
@@ -62,10 +64,10 @@ aim_asked net None door = Err Door
 aim_asked net (Some head) door = door_asked net head door
 
 abbrev pub aim_answer : Net → ℕ → State → Answer StudyFault
-aim_answer net door s = aim_asked net s.head door
+aim_answer net door s = aim_asked net (head_of s.stage) door
 
 abbrev pub aimed_by : Net → ℕ → ℕ → State → Answer StudyFault → State
-aimed_by net head door s (Ok u) = record { head = Some head; door = Some door; search = aimed net head door }
+aimed_by net head door s (Ok u) = record { stage = Aimed head door; search = aimed net head door }
 aimed_by net head door s (Err f) = s
 
 abbrev pub aim_from : Net → Option ℕ → ℕ → State → State
@@ -80,7 +82,7 @@ progress net door budget s =
     record { tries = (run net door budget s).tries - s.tries; rows = length (run net door budget s).rows; status = status net door (run net door budget s).rows }
 
 abbrev pub advanced_by : Net → ℕ → ℕ → State → State
-advanced_by net door budget s = record { head = s.head; door = s.door; search = run net door budget s.search }
+advanced_by net door budget s = record { stage = s.stage; search = run net door budget s.search }
 
 abbrev pub progress_when : Net → ℕ → ℕ → Search → Answer StudyFault → Result Progress StudyFault
 progress_when net door budget s (Ok u) = Ok (progress net door budget s)
@@ -91,7 +93,7 @@ advance_of net None budget s = Err NoAim
 advance_of net (Some door) budget s = progress_when net door budget s (budget_asked budget)
 
 abbrev pub advance_answer : Net → ℕ → State → Result Progress StudyFault
-advance_answer net budget s = advance_of net s.door budget s.search
+advance_answer net budget s = advance_of net (door_of s.stage) budget s.search
 
 abbrev pub advanced_when : Net → ℕ → ℕ → State → Answer StudyFault → State
 advanced_when net door budget s (Ok u) = advanced_by net door budget s
@@ -112,7 +114,7 @@ show_of net k rows None = Err NoAim
 show_of net k rows (Some door) = shown net (slice_get rows k)
 
 abbrev pub show_answer : Net → ℕ → State → Result (ℕ × ℕ) StudyFault
-show_answer net k s = show_of net k s.search.rows s.door
+show_answer net k s = show_of net k s.search.rows (door_of s.stage)
 
 -- Bounds
 
@@ -140,7 +142,7 @@ module _ {Num : Type 0} (net : Net) (ratings : List Rating) (scale : Arithmetic 
   bounds_when (Some door) s = Ok (record { low = low_bound s; high = high_bound door s })
 
   abbrev pub bounds_answer : State → Result (Bounds Num) StudyFault
-  bounds_answer s = bounds_when s.door s.search
+  bounds_answer s = bounds_when (door_of s.stage) s.search
 
 -- Line: the questions of show, and then whether the buffer is long enough
 
@@ -165,12 +167,13 @@ standing_when net None s = Err NoAim
 standing_when net (Some door) s = Ok (record { tries = s.tries; rows = length s.rows; status = status net door s.rows })
 
 abbrev pub standing_answer : Net → State → Result Progress StudyFault
-standing_answer net s = standing_when net s.door s.search
+standing_answer net s = standing_when net (door_of s.stage) s.search
 
--- Any call after a set-up; a refused one, a showing and a question for bounds change nothing
+-- Any call after a set-up; a refused one, a showing, a line and a question for bounds change nothing
 
 abbrev pub called : Net → State → Call → State
-called net s (Aim door) = aim_from net s.head door s
-called net s (Advance budget) = advance_from net s.door budget s
+called net s (Aim door) = aim_from net (head_of s.stage) door s
+called net s (Advance budget) = advance_from net (door_of s.stage) budget s
 called net s (Show k) = s
-called net s AskBounds = s
+called net s (Line k) = s
+called net s (AskBounds which) = s

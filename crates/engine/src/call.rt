@@ -1,11 +1,16 @@
-// The calls of a study after its set-up, what each answers, and what can stop a list of them.
+// The calls of a study after its set-up, and what each answers.
 ghost use Rattle.std.specs.Prelude.{◌≡◌};
-ghost use Rattle.engine.specs.declared.call.CarryFault.TheVariants.{Study, Memory};
 
 use crate::progress::Progress;
 use chance::bounds::Bounds;
 use refusals::study_fault::StudyFault;
-use std::alloc::AllocError;
+
+// One of the two scales of a run.
+#[derive(Clone, Copy)]
+pub enum WhichScale {
+    First,
+    Second,
+}
 
 #[derive(Clone, Copy)]
 pub enum Call {
@@ -15,39 +20,35 @@ pub enum Call {
     Advance(u32),
     // show this row
     Show(usize),
-    // ask for the bounds
-    Bounds,
+    // write the CUT line of this row into the buffer
+    Line(usize),
+    // ask for the bounds in one of the scales
+    Bounds(WhichScale),
 }
 
-// What a call answers, or its refusal.
+// What a call answers, or its refusal. A is the kind of number of the first scale, and B of the second.
 #[derive(Clone, Copy)]
-pub enum Answer<T> {
+pub enum Answer<A, B> {
     Aim(Result<(), StudyFault>),
     Advance(Result<Progress, StudyFault>),
     Show(Result<(u64, u32), StudyFault>),
-    Bounds(Result<Bounds<T>, StudyFault>),
+    Line(Result<usize, StudyFault>),
+    FirstBounds(Result<Bounds<A>, StudyFault>),
+    SecondBounds(Result<Bounds<B>, StudyFault>),
 }
 
+// A call, with the place for its answer.
 #[derive(Clone, Copy)]
-pub enum CarryFault {
-    // the set-up was refused
-    Study(StudyFault),
-    // there is no memory for the answers
-    Memory,
+pub struct Asked<A, B> {
+    pub call: Call,
+    pub answer: Option<Answer<A, B>>,
 }
 
-impl From<StudyFault> for CarryFault {
-    ghost from_gives = { λ fault r. r ≡ Study fault };
-
-    fn from(fault: StudyFault) -> CarryFault {
-        CarryFault::Study(fault)
-    }
-}
-
-impl From<AllocError> for CarryFault {
-    ghost from_gives = { λ _ r. r ≡ Memory };
-
-    fn from(_want: AllocError) -> CarryFault {
-        CarryFault::Memory
+impl<A, B> Asked<A, B> {
+    // A call that is not made yet.
+    pub fn new(call: Call) -> Self
+        ensures { result ≡ record { call = call; answer = None } }
+    {
+        Asked { call, answer: None }
     }
 }

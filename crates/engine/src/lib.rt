@@ -6,4 +6,5 @@ pub mod carry;
 mod listing;
 pub mod progress;
 mod questions;
+mod stage;
 pub mod study;

@@ -12,6 +12,6 @@ pub(crate) fn list_sets<N: Network>(network: &N, rows: &[Row], sets: &mut [u64])
     ensures { take (length rows.now) sets.new ≡ map (branch_set (N.net network.now)) rows.now }
 {
     for (k, row) in rows.iter().enumerate() {
-        sets[k] = branch_set_of(network, *row);
+        sets[k] = u64::from(branch_set_of(network, row));
     }
 }

@@ -1,13 +1,22 @@
 -- Two networks joined at a node.
-use Rattle.std.proofs.Common.{◌≡◌, ℕ, ◌+◌, ◌-◌, ◌<◌, ◌≤◌, true, map, length, sym, ap, ◌∙◌, ap₂, arith}
+use Rattle.std.proofs.Common.{◌≡◌, ℕ, ◌+◌, ◌-◌, ◌<◌, ◌≤◌, true, false, map, length, None, sym, refl, ap, ◌∙◌, ap₂, arith}
 use Rattle.std.specs.List.{slice_get}
 use Rattle.std.proofs.lemmas.List.{length-append, length-map}
-use Rattle.std.proofs.lemmas.Bool.{cond-true}
-use Rattle.network.specs.Meaning.{Net, RatedNet, LegalRated}
+use Rattle.std.proofs.lemmas.Bool.{cond-true, cond-false}
+use Rattle.network.specs.Meaning.{Net, RatedNet, LegalRated, empty_net}
 use Rattle.layers.specs.Meaning.{moved, joint_fits, joint_net, joint_rated}
 use Rattle.sets.proofs.Nth.{nth-append-left, nth-append-right}
 
+pub joint-none : (j : ℕ) (p q : Net) → false ≡ joint_fits j p q → empty_net ≡ joint_net j p q
+joint-none j p q apart = sym (cond-false _ _ _ (sym apart))
+
+pub nth-joint-none : (j : ℕ) (p q : Net) (k : ℕ) → false ≡ joint_fits j p q → None ≡ slice_get (joint_net j p q).branches k
+nth-joint-none j p q k apart = rw (cond-false _ _ _ (sym apart)) refl
+
 module _ (j : ℕ) (p q : Net) (fits : true ≡ joint_fits j p q) where
+  pub nodes-joint : p.nodes + q.nodes - 1 ≡ (joint_net j p q).nodes
+  nodes-joint = rw (cond-true _ _ _ (sym fits)) refl
+
   pub length-joint : length p.branches + length q.branches ≡ length (joint_net j p q).branches
   length-joint = rw (cond-true _ _ _ (sym fits)) (simp (length-append, length-map))
 
@@ -25,6 +34,9 @@ module _ (j : ℕ) (p q : RatedNet) (np nq : Net) (sp : p.plain ≡ np) (sq : q.
 
   count : LegalRated p → length p.ratings ≡ length np.branches
   count hp = hp.each ∙ ap (λ n. length n.branches) sp
+
+  pub nth-rated-none : false ≡ joint_fits j np nq → (k : ℕ) → None ≡ slice_get (joint_rated j p q).ratings k
+  nth-rated-none apart k = rw (cond-false _ _ _ (same-fits ∙ sym apart)) refl
 
   pub nth-rated-first : LegalRated p → true ≡ joint_fits j np nq → (k m : ℕ) → m ≡ length np.branches → k < m → slice_get p.ratings k ≡ slice_get (joint_rated j p q).ratings k
   nth-rated-first hp fits k m em h =

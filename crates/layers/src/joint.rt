@@ -1,8 +1,8 @@
 // Two networks joined at a node.
-ghost use Rattle.std.specs.Prelude.{◌≡◌, ◌≤◌, map};
+ghost use Rattle.std.specs.Prelude.{◌≡◌, ◌+◌, ◌-◌, ◌≤◌, map, length};
 ghost use Rattle.std.specs.List.{slice_get};
 ghost use Rattle.layers.specs.Meaning.{moved_node, moved, joint_fits, joint_net, joint_rated};
-ghost use Rattle.layers.specs.Laws.{Joined};
+ghost use Rattle.layers.specs.Laws.{Joined, JoinedCount, JoinedBranch, JoinedRating};
 ghost use Rattle.layers.specs.Legality.{legal-joint, legal-joint_rated};
 
 use network::branch::Branch;
@@ -42,10 +42,7 @@ fn moved_at<Q: Network>(second: &Q, nodes: u32, at: u32, k: u32) -> Option<Branc
     requires { nodes ≤ 32 }
     ensures { result ≡ slice_get (map (moved nodes at) (Q.Network.net second.now).branches) k }
 {
-    match branch_within(second, k) {
-        Some(b) => Some(moved_branch(nodes, at, b)),
-        None => None,
-    }
+    branch_within(second, k).map(|b| moved_branch(nodes, at, b))
 }
 
 impl<P: Network, Q: Network> Joint<P, Q> {
@@ -83,21 +80,30 @@ impl<P: Network, Q: Network> Network for Joint<P, Q> {
         (P.Network.legal s.first)
         (Q.Network.legal s.second) };
 
-    fn nodes(&self) -> u32 {
+    fn nodes(&self) -> u32
+        ensures meaning { result ≡ (joint_net self.now.node (P.Network.net self.now.first) (Q.Network.net self.now.second)).nodes }
+        ensures law { let first = P.Network.net self.now.first in let second = Q.Network.net self.now.second in JoinedCount self.now.node first second (first.nodes + second.nodes - 1) result }
+    {
         if !self.joinable() {
             return 0;
         }
         self.first.nodes() + self.second.nodes() - 1
     }
 
-    fn branches(&self) -> u32 {
+    fn branches(&self) -> u32
+        ensures meaning { result ≡ length (joint_net self.now.node (P.Network.net self.now.first) (Q.Network.net self.now.second)).branches }
+        ensures law { let first = P.Network.net self.now.first in let second = Q.Network.net self.now.second in JoinedCount self.now.node first second (length first.branches + length second.branches) result }
+    {
         if !self.joinable() {
             return 0;
         }
         self.first.branches() + self.second.branches()
     }
 
-    fn branch(&self, k: u32) -> Option<Branch> {
+    fn branch(&self, k: u32) -> Option<Branch>
+        ensures meaning { result ≡ slice_get (joint_net self.now.node (P.Network.net self.now.first) (Q.Network.net self.now.second)).branches k }
+        ensures law { JoinedBranch self.now.node (P.Network.net self.now.first) (Q.Network.net self.now.second) k result }
+    {
         if !self.joinable() {
             return None;
         }
@@ -120,7 +126,11 @@ impl<P: RatedNetwork, Q: RatedNetwork> RatedNetwork for Joint<P, Q> {
         (P.RatedNetwork.legal s.first)
         (Q.RatedNetwork.legal s.second) };
 
-    fn rating(&self, k: u32) -> Option<Rating> {
+    fn rating(&self, k: u32) -> Option<Rating>
+        ensures answer { result ≡ slice_get (joint_rated self.now.node (P.RatedNetwork.rated self.now.first) (Q.RatedNetwork.rated self.now.second)).ratings k }
+        ensures same { (joint_rated self.now.node (P.RatedNetwork.rated self.now.first) (Q.RatedNetwork.rated self.now.second)).plain ≡ joint_net self.now.node (P.Network.net self.now.first) (Q.Network.net self.now.second) }
+        ensures law { JoinedRating self.now.node (P.Network.net self.now.first) (Q.Network.net self.now.second) (P.RatedNetwork.rated self.now.first).ratings (Q.RatedNetwork.rated self.now.second).ratings k result }
+    {
         let count = self.first.branches();
         let first = self.first.rating(k);
         let second = self.second.rating(k.saturating_sub(count));

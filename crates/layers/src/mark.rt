@@ -1,119 +1,116 @@
 // Layers that tell one branch of the network below as failed or as working.
-ghost use Rattle.std.specs.Prelude.{◌≡◌};
+ghost use Rattle.std.specs.Prelude.{◌≡◌, ◌==◌, if◌then◌else◌, length};
 ghost use Rattle.std.specs.List.{slice_get};
-ghost use Rattle.layers.specs.Laws.{Marked};
-ghost use Rattle.layers.specs.Meaning.{retold_at, retold, retold_rated};
+ghost use Rattle.layers.specs.Laws.{Marked, MarkedBranch};
+ghost use Rattle.layers.specs.Meaning.{told, retold, retold_rated};
 ghost use Rattle.layers.specs.Legality.{legal-retold, legal-retold_rated};
+ghost use Rattle.network.specs.declared.branch.Condition.{Condition};
 ghost use Rattle.network.specs.declared.branch.Condition.TheVariants.{Failed, Working};
 
 use network::branch::{Branch, Condition};
 use network::rating::Rating;
 use network::traits::{Network, RatedNetwork};
+use std::marker::PhantomData;
 
-// Branch k of the network below, told as `condition` if k is `at`.
-fn told_at<N: Network>(below: &N, at: u32, condition: Condition, k: u32) -> Option<Branch>
-    ensures { result ≡ slice_get (retold_at condition at (N.Network.net below.now).branches) k }
-{
-    match below.branch(k) {
-        Some(b) => {
-            if k == at {
-                Some(Branch {
-                    from: b.from,
-                    to: b.to,
-                    condition,
-                })
-            } else {
-                Some(b)
-            }
+// What a layer tells of its branch.
+pub trait Mark: Drop {
+    ghost CONDITION: { Condition };
+
+    const CONDITION: Condition;
+}
+
+#[derive(Drop)]
+pub struct AsFailed;
+
+impl Mark for AsFailed {
+    ghost CONDITION = { Failed };
+
+    const CONDITION: Condition = Condition::Failed;
+}
+
+#[derive(Drop)]
+pub struct AsWorking;
+
+impl Mark for AsWorking {
+    ghost CONDITION = { Working };
+
+    const CONDITION: Condition = Condition::Working;
+}
+
+// The network below with one branch told as the mark says; the network below if it has no branch of that number.
+#[derive(Drop)]
+pub struct Told<N, M> {
+    below: N,
+    branch: u32,
+    mark: PhantomData<M>,
+}
+
+pub type Out<N> = Told<N, AsFailed>;
+
+pub type Sure<N> = Told<N, AsWorking>;
+
+impl<N: Network, M: Mark> Told<N, M> {
+    pub fn over(below: N, branch: u32) -> Told<N, M>
+        ensures made { (result.below ≡ below) × (result.branch ≡ branch) }
+        ensures law { Marked M.CONDITION branch (N.Network.net below) (retold M.CONDITION result.branch (N.Network.net result.below)) }
+    {
+        Told {
+            below,
+            branch,
+            mark: PhantomData,
         }
-        None => None,
     }
-}
 
-// The network below with one branch told as failed; the network below if it has no branch of that number.
-#[derive(Drop)]
-pub struct Out<N> {
-    below: N,
-    branch: u32,
-}
-
-impl<N: Network> Out<N> {
-    pub fn over(below: N, branch: u32) -> Out<N>
-        ensures made { (result.below ≡ below) × (result.branch ≡ branch) }
-        ensures law { Marked Failed branch (N.Network.net below) (retold Failed result.branch (N.Network.net result.below)) }
+    // Branch k as the layer tells it.
+    fn tell(&self, k: u32, b: Branch) -> Branch
+        ensures { result ≡ (if k == self.now.branch then told M.CONDITION b else b) }
     {
-        Out { below, branch }
+        if k == self.branch {
+            Branch {
+                condition: M::CONDITION,
+                ..b
+            }
+        } else {
+            b
+        }
     }
 }
 
-impl<N: Network> Network for Out<N> {
-    ghost net = { λ s. retold Failed s.branch (N.Network.net s.below) };
+impl<N: Network, M: Mark> Network for Told<N, M> {
+    ghost net = { λ s. retold M.CONDITION s.branch (N.Network.net s.below) };
 
-    ghost legal = { λ s. legal-retold Failed s.branch (N.Network.net s.below) (N.Network.legal s.below) };
+    ghost legal = { λ s. legal-retold M.CONDITION s.branch (N.Network.net s.below) (N.Network.legal s.below) };
 
-    fn nodes(&self) -> u32 {
+    fn nodes(&self) -> u32
+        ensures { result ≡ (N.Network.net self.now.below).nodes }
+    {
         self.below.nodes()
     }
 
-    fn branches(&self) -> u32 {
-        self.below.branches()
-    }
-
-    fn branch(&self, k: u32) -> Option<Branch> {
-        told_at(&self.below, self.branch, Condition::Failed, k)
-    }
-}
-
-impl<N: RatedNetwork> RatedNetwork for Out<N> {
-    ghost rated = { λ s. retold_rated Failed s.branch (N.RatedNetwork.rated s.below) };
-
-    ghost legal = { λ s. legal-retold_rated Failed s.branch (N.RatedNetwork.rated s.below) (N.RatedNetwork.legal s.below) };
-
-    fn rating(&self, k: u32) -> Option<Rating> {
-        self.below.rating(k)
-    }
-}
-
-// The network below with one branch told as working; the network below if it has no branch of that number.
-#[derive(Drop)]
-pub struct Sure<N> {
-    below: N,
-    branch: u32,
-}
-
-impl<N: Network> Sure<N> {
-    pub fn over(below: N, branch: u32) -> Sure<N>
-        ensures made { (result.below ≡ below) × (result.branch ≡ branch) }
-        ensures law { Marked Working branch (N.Network.net below) (retold Working result.branch (N.Network.net result.below)) }
+    fn branches(&self) -> u32
+        ensures meaning { result ≡ length (retold M.CONDITION self.now.branch (N.Network.net self.now.below)).branches }
+        ensures law { result ≡ length (N.Network.net self.now.below).branches }
     {
-        Sure { below, branch }
-    }
-}
-
-impl<N: Network> Network for Sure<N> {
-    ghost net = { λ s. retold Working s.branch (N.Network.net s.below) };
-
-    ghost legal = { λ s. legal-retold Working s.branch (N.Network.net s.below) (N.Network.legal s.below) };
-
-    fn nodes(&self) -> u32 {
-        self.below.nodes()
-    }
-
-    fn branches(&self) -> u32 {
         self.below.branches()
     }
 
-    fn branch(&self, k: u32) -> Option<Branch> {
-        told_at(&self.below, self.branch, Condition::Working, k)
+    fn branch(&self, k: u32) -> Option<Branch>
+        ensures meaning { result ≡ slice_get (retold M.CONDITION self.now.branch (N.Network.net self.now.below)).branches k }
+        ensures law { MarkedBranch M.CONDITION self.now.branch k (slice_get (N.Network.net self.now.below).branches k) result }
+    {
+        self.below.branch(k).map(|b| self.tell(k, b))
     }
 }
 
-impl<N: RatedNetwork> RatedNetwork for Sure<N> {
-    ghost rated = { λ s. retold_rated Working s.branch (N.RatedNetwork.rated s.below) };
+impl<N: RatedNetwork, M: Mark> RatedNetwork for Told<N, M> {
+    ghost rated = { λ s. retold_rated M.CONDITION s.branch (N.RatedNetwork.rated s.below) };
 
-    ghost legal = { λ s. legal-retold_rated Working s.branch (N.RatedNetwork.rated s.below) (N.RatedNetwork.legal s.below) };
+    ghost legal = { λ s. legal-retold_rated M.CONDITION s.branch (N.RatedNetwork.rated s.below) (N.RatedNetwork.legal s.below) };
 
-    fn rating(&self, k: u32) -> Option<Rating> {
+    fn rating(&self, k: u32) -> Option<Rating>
+        ensures answer { result ≡ slice_get (N.RatedNetwork.rated self.now.below).ratings k }
+        ensures same { (retold_rated M.CONDITION self.now.branch (N.RatedNetwork.rated self.now.below)).plain ≡ retold M.CONDITION self.now.branch (N.Network.net self.now.below) }
+    {
         self.below.rating(k)
     }
 }

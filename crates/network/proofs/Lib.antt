@@ -1,2 +1,4 @@
 pub mod Ratings
 pub mod Rows
+pub mod Numbered
+pub mod Firsts

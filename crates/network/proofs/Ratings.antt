@@ -1,13 +1,14 @@
 -- Two ratings of the same numbers are the same, and legal numbers are taken as they are.
-use Rattle.std.proofs.Common.{◌≡◌, ℕ, ◌≤◌, true, List, map, is_ok, Some, sym, ap, ◌∙◌, arith}
+use Rattle.std.proofs.Common.{◌≡◌, ℕ, ◌≤◌, true, ltb, List, map, replicate, is_ok, Some, None, Option, sym, ap, ◌∙◌, inl, inr, arith}
 use mathlib.Core.HLevel.{is_prop→PathP}
 use native.Mathlib.Bridge.{le_prop}
 use Rattle.std.specs.List.{slice_get}
-use Rattle.std.specs.Option.{option_map}
-use Rattle.std.proofs.lemmas.Bool.{le-leb, and_from, cond-true}
+use Rattle.std.specs.Bool.{then_some}
+use Rattle.std.specs.Option.{option_map, option_and_then}
+use Rattle.std.proofs.lemmas.Bool.{le-leb, and_from, cond-true, cases_lt, lt-ltb, le-ltb}
 use Rattle.network.specs.declared.rating.Rating.{Rating}
 use Rattle.network.specs.declared.branch.TableRow.{TableRow}
-use Rattle.sets.proofs.Nth.{nth-map, all-nth}
+use Rattle.sets.proofs.Nth.{nth-map, all-nth, nth-replicate, nth-replicate-past}
 use Rattle.network.specs.Ratings.{rating_from, checked_rating}
 use Rattle.network.specs.Meaning.{rating_of}
 use Rattle.network.specs.Questions.{rows_asked}
@@ -30,8 +31,13 @@ rating-is r m e p q =
     ap Some (same-rating r (rating_from m e) (omega (arith, r.small)) (omega (arith, r.least, r.most))) ∙ sym (cond-true _ _ _ fits)
 
 -- the rating of a row of a sound table
-pub listed-rating : (n : ℕ) (rows : List TableRow) → is_ok (rows_asked n 0 rows) ≡ true → (k : ℕ) (row : TableRow) → slice_get rows k ≡ Some row
-    → checked_rating row.mantissa row.exponent ≡ slice_get (map rating_of rows) k
-listed-rating n rows sound k row e =
-    let fits = (all-nth (Sound n) rows k row (all_sound n 0 rows sound) e).1 in
-    cond-true _ _ _ fits ∙ sym (nth-map rating_of rows k ∙ ap (option_map rating_of) e)
+pub listed-rating : (n : ℕ) (rows : List TableRow) → is_ok (rows_asked n 0 rows) ≡ true → (k : ℕ) (row : Option TableRow) → row ≡ slice_get rows k
+    → option_and_then (λ r. checked_rating r.mantissa r.exponent) row ≡ slice_get (map rating_of rows) k
+listed-rating n rows sound k None e = sym (nth-map rating_of rows k ∙ ap (option_map rating_of) (sym e))
+listed-rating n rows sound k (Some row) e =
+    let fits = (all-nth (Sound n) rows k row (all_sound n 0 rows sound) (sym e)).1 in
+    cond-true _ _ _ fits ∙ sym (nth-map rating_of rows k ∙ ap (option_map rating_of) (sym e))
+
+-- the rating of a branch of a ring
+pub ring-rating : (n k : ℕ) (r : Rating) → then_some (ltb k n) r ≡ slice_get (replicate n r) k
+ring-rating n k r = elim (cases_lt k n) [ inl h ↦ rw (lt-ltb k n h) (sym (nth-replicate n k r h)) | inr h ↦ rw (le-ltb k n h) (sym (nth-replicate-past n k r h)) ]

@@ -2,3 +2,4 @@ pub mod Ratings
 pub mod Meaning
 pub mod Questions
 pub mod Legality
+pub mod Refusing

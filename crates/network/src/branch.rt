@@ -1,7 +1,9 @@
 // The parts of a network, and a row of the table from which a caller's network is made.
 ghost use Rattle.std.specs.Prelude.{◌≡◌, [], ◌∷◌, Some};
+ghost use Rattle.network.specs.Ratings.{checked_rating};
 ghost use Rattle.network.specs.Meaning.{branch_of, letter, branch_text};
 
+use crate::rating::Rating;
 use std::fmt;
 
 // Whether a branch can fail.
@@ -59,6 +61,12 @@ pub struct TableRow {
     pub condition: Condition,
 }
 
+impl Default for TableRow {
+    fn default() -> TableRow {
+        TableRow::BLANK
+    }
+}
+
 impl TableRow {
     // Stands in places of a table that hold no branch yet.
     pub const BLANK: TableRow = TableRow {
@@ -68,6 +76,13 @@ impl TableRow {
         exponent: 9,
         condition: Condition::Able,
     };
+
+    // The rating, where its numbers are legal.
+    pub fn rating(&self) -> Option<Rating>
+        ensures { result ≡ checked_rating self.now.mantissa self.now.exponent }
+    {
+        Rating::new(self.mantissa, self.exponent)
+    }
 
     pub fn branch(&self) -> Branch
         ensures { result ≡ branch_of self.now }

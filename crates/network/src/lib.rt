@@ -3,6 +3,7 @@
 
 pub mod borrowed;
 pub mod branch;
+pub mod branches;
 pub mod list;
 pub mod questions;
 pub mod rating;

@@ -3,7 +3,6 @@ ghost use Rattle.std.specs.Prelude.{◌≡◌};
 ghost use Rattle.network.specs.Questions.{nodes_asked, count_asked, row_asked, head_asked};
 
 use crate::branch::TableRow;
-use crate::rating::Rating;
 use refusals::network_fault::NetworkFault;
 use refusals::study_fault::StudyFault;
 
@@ -34,7 +33,7 @@ pub fn check_row(nodes: u32, k: u32, row: &TableRow) -> Result<(), NetworkFault>
     if row.from >= nodes || row.to >= nodes {
         return Err(NetworkFault::BadEnd(k));
     }
-    if Rating::new(row.mantissa, row.exponent).is_none() {
+    if row.rating().is_none() {
         return Err(NetworkFault::BadRating(k));
     }
     Ok(())

@@ -1,5 +1,8 @@
 // A ring of nodes.
-ghost use Rattle.std.specs.Prelude.{◌≡◌, ◌≤◌, Ok, Err, MatchResult};
+ghost use Rattle.std.specs.Prelude.{◌≡◌, ◌≤◌, Ok, Err, MatchResult, IfOk};
+ghost use Rattle.refusals.specs.Questions.{first_no, refusal_of};
+ghost use Rattle.refusals.specs.Refusals.{network_refusal};
+ghost use Rattle.network.specs.Refusing.{ring_questions};
 ghost use Rattle.network.specs.Ratings.{rating_from};
 ghost use Rattle.network.specs.Questions.{ring_asked};
 ghost use Rattle.network.specs.Meaning.{ring_net, ring_rated};
@@ -20,17 +23,20 @@ pub struct Ring {
 }
 
 impl Ring {
+    // The refusal is that of the first question answered no.
+    #[tactic(auto, using(crate::proofs::Firsts::ring_first))]
     pub fn new(nodes: u32, mantissa: u32, exponent: u32) -> Result<Ring, NetworkFault>
-        ensures { MatchResult
+        ensures answer { MatchResult
             result
-            (λ s. (ring_asked nodes mantissa exponent ≡ Ok tt) × (s.nodes ≡ nodes) × (s.rating ≡ rating_from mantissa exponent))
+            (λ _. ring_asked nodes mantissa exponent ≡ Ok tt)
             (λ fault. ring_asked nodes mantissa exponent ≡ Err fault) }
+        ensures plain { IfOk result (λ s. ⟦<Ring as Network>⟧.net s ≡ ring_net nodes) }
+        ensures rated { IfOk result (λ s. ⟦<Ring as RatedNetwork>⟧.rated s ≡ ring_rated nodes (rating_from mantissa exponent)) }
+        ensures refusal { refusal_of network_refusal result ≡ first_no (ring_questions nodes mantissa exponent) }
     {
         check_nodes(nodes)?;
-        match Rating::new(mantissa, exponent) {
-            Some(rating) => Ok(Ring { nodes, rating }),
-            None => Err(NetworkFault::BadRating(0)),
-        }
+        let rating = Rating::new(mantissa, exponent).ok_or(NetworkFault::BadRating(0))?;
+        Ok(Ring { nodes, rating })
     }
 }
 
@@ -66,10 +72,6 @@ impl RatedNetwork for Ring {
     ghost legal = { λ s. legal-ring_rated s.nodes s.rating s.few };
 
     fn rating(&self, k: u32) -> Option<Rating> {
-        if k < self.nodes {
-            Some(self.rating)
-        } else {
-            None
-        }
+        (k < self.nodes).then_some(self.rating)
     }
 }

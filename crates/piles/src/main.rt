@@ -3,6 +3,7 @@
 #![tactic(auto)]
 
 ghost use Rattle.std.specs.Prelude.{◌≡◌, ℕ, ◌<◌, ◌≤◌, max, [], is_ok, if◌then◌else◌, slice_index_or};
+ghost use Rattle.network.specs.Meaning.{empty_net, list_rated};
 ghost use Rattle.network.specs.Questions.{list_asked};
 ghost use Rattle.piles.specs.Rows.{row_of};
 
@@ -13,8 +14,9 @@ use network::branch::{Condition, TableRow};
 use network::list::List;
 use network::ring::Ring;
 use network::traits::RatedNetwork;
+use refusals::layer::Refusal;
 use refusals::network_fault::NetworkFault;
-use sheet::network_text::write_network;
+use sheet::network_text::NetworkText;
 use std::io::{BufRead, BufReader};
 
 const PLACES: usize = 70;
@@ -48,7 +50,7 @@ fn rows(nodes: u32, mantissa: u32, exponent: u32) -> [TableRow; PLACES]
 
 // The list of these rows; where they are refused, the empty network that it was at first.
 fn listed<'a>(nodes: u32, rows: &'a [TableRow]) -> List<'a>
-    ensures { (result.nodes ≡ (if is_ok (list_asked nodes rows.now) then nodes else 0)) × (result.table.now ≡ (if is_ok (list_asked nodes rows.now) then rows.now else [])) }
+    ensures { ⟦<List<'a> as RatedNetwork>⟧.rated result ≡ (if is_ok (list_asked nodes rows.now) then list_rated nodes rows.now else record { plain = empty_net; ratings = [] }) }
 {
     let mut list = List::new();
     let _ = list.fill(nodes, rows);
@@ -56,9 +58,7 @@ fn listed<'a>(nodes: u32, rows: &'a [TableRow]) -> List<'a>
 }
 
 fn tell_refusal(rt: &HostRuntime, what: &str, fault: NetworkFault) -> anyhow::Result<()> {
-    let refusal = fault.refusal();
-    let number = refusal.number;
-    let place = refusal.place;
+    let Refusal { number, place, .. } = fault.into();
     println!(rt; "{what} REFUSED {number} PLACE {place}")?;
     Ok(())
 }
@@ -72,9 +72,7 @@ fn tell_list(rt: &HostRuntime, nodes: u32, rows: &[TableRow]) -> anyhow::Result<
 }
 
 fn tell<N: RatedNetwork>(rt: &HostRuntime, network: &N) -> anyhow::Result<()> {
-    let mut text = String::new(rt.alloc());
-    write_network(&mut text, network, 0)?;
-    print!(rt; "{text}")?;
+    print!(rt; "{}", NetworkText { network, head: 0 })?;
     Ok(())
 }
 

@@ -10,7 +10,7 @@ use std::io::{BufRead, BufReader};
 fn study_file(rt: &HostRuntime, study: &mut Study, name: &str) -> anyhow::Result<()> {
     let bytes = fs::read(rt, name)?;
     let mut text = String::new(rt.alloc());
-    write_sheet(rt.alloc(), &mut text, study, &bytes)?;
+    write_sheet(&mut text, study, &bytes)?;
     print!(rt; "FILE {name}\n{text}")?;
     Ok(())
 }

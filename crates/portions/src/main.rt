@@ -9,7 +9,8 @@ use network::branch::TableRow;
 use network::list::List;
 use network::traits::{Network, RatedNetwork};
 use search::status::Status;
-use sheet::door_text::{write_refused, write_study};
+use sheet::door_text::RefusedDoor;
+use sheet::study_text::StudyText;
 use std::fs;
 use std::io::{BufRead, BufReader};
 
@@ -35,15 +36,18 @@ fn tell_door<N: RatedNetwork>(
     door: u32,
     budget: u32,
 ) -> anyhow::Result<()> {
-    let mut text = String::new(rt.alloc());
     match study.aim(network, door) {
         Ok(()) => {
             advance_all(study, network, budget)?;
-            write_study(&mut text, study, network, door)?;
+            let found = StudyText {
+                study,
+                network,
+                door,
+            };
+            print!(rt; "{found}")?;
         }
-        Err(fault) => write_refused(&mut text, door, fault)?,
+        Err(fault) => print!(rt; "{}", RefusedDoor { door, fault })?,
     }
-    print!(rt; "{text}")?;
     Ok(())
 }
 
@@ -58,8 +62,7 @@ fn tell_doors<N: RatedNetwork>(
     if study.set_up(network, head).is_err() {
         return Err(anyhow!("the head is refused"));
     }
-    let mut doors = Doors::new(bytes);
-    while let Some(door) = doors.next_door() {
+    for door in Doors::new(bytes) {
         tell_door(rt, &mut study, network, door, budget)?;
     }
     Ok(())

@@ -1,5 +1,5 @@
 -- The number, layer and place of every refusal, and the text of a refused deck.
-use Rattle.std.specs.Prelude.{ℕ, List, [], ◌∷◌, ◌++◌, Ok, Err, codes, decimal, Result}
+use Rattle.std.specs.Prelude.{ℕ, List, [], ◌∷◌, ◌++◌, codes, decimal}
 use Rattle.refusals.specs.declared.layer.Layer.{Layer}
 use Rattle.refusals.specs.declared.layer.Layer.TheVariants as layers
 use Rattle.refusals.specs.declared.layer.Refusal.{Refusal}
@@ -44,11 +44,6 @@ deck_refusal Word = record { number = 16; layer = layers.Deck; place = 0 }
 deck_refusal Turn = record { number = 17; layer = layers.Deck; place = 0 }
 deck_refusal Numbers = record { number = 18; layer = layers.Deck; place = 0 }
 deck_refusal Mark = record { number = 19; layer = layers.Deck; place = 0 }
-
--- an answer with the line added to its fault
-abbrev pub at_line : {T : Type 0} → ℕ → Result T DeckFault → Result T DeckRefusal
-at_line line (Ok x) = Ok x
-at_line line (Err f) = Err (record { fault = f; line = line })
 
 -- N, S or D
 abbrev pub letter : Layer → ℕ

@@ -1,29 +1,30 @@
 // What refuses a deck, the study and network faults below it, and the line where it stands.
 ghost use Rattle.std.specs.Prelude.{◌≡◌, Some};
-ghost use Rattle.refusals.specs.Refusals.{deck_refusal, at_line, refusal_text};
+ghost use Rattle.refusals.specs.Refusals.{deck_refusal, refusal_text};
 ghost use Rattle.refusals.specs.declared.deck_fault.DeckFault.TheVariants.{Study};
 ghost use Rattle.refusals.specs.declared.study_fault.StudyFault.TheVariants.{Network};
 
 use crate::layer::{Layer, Refusal};
 use crate::network_fault::NetworkFault;
 use crate::study_fault::StudyFault;
-use std::fmt;
+use std::{error, fmt};
+use thiserror::Error;
 
-#[derive(Clone, Copy)]
+#[derive(Clone, Copy, Debug, PartialEq, Eq, Error)]
 pub enum DeckFault {
-    // a question of a study or of a network was answered no
+    #[error(transparent)]
     Study(StudyFault),
-    // the table has fewer than 64 places
+    #[error("the table has fewer than 64 places")]
     Table,
-    // over 65,536 bytes, or no byte 10 at the end
+    #[error("the deck has over 65,536 bytes, or no byte 10 at its end")]
     Bytes,
-    // the line begins with none of the five words
+    #[error("the line begins with none of the five words")]
     Word,
-    // the card is not in turn
+    #[error("the card is not in turn")]
     Turn,
-    // not the card's numbers
+    #[error("these are not the card's numbers")]
     Numbers,
-    // the mark names no branch
+    #[error("the mark names no branch")]
     Mark,
 }
 
@@ -43,65 +44,58 @@ impl From<NetworkFault> for DeckFault {
     }
 }
 
-impl DeckFault {
-    fn number(self) -> u32
-        ensures { result ≡ (deck_refusal self).number }
-    {
-        match self {
-            DeckFault::Study(fault) => fault.refusal().number,
+impl From<DeckFault> for Refusal {
+    ghost from_gives = { λ fault r. r ≡ deck_refusal fault };
+
+    fn from(fault: DeckFault) -> Refusal {
+        let number = match fault {
+            DeckFault::Study(fault) => return fault.into(),
             DeckFault::Table => 14,
             DeckFault::Bytes => 15,
             DeckFault::Word => 16,
             DeckFault::Turn => 17,
             DeckFault::Numbers => 18,
             DeckFault::Mark => 19,
-        }
-    }
-
-    pub fn refusal(self) -> Refusal
-        ensures { result ≡ deck_refusal self }
-    {
-        match self {
-            DeckFault::Study(fault) => fault.refusal(),
-            _ => Refusal {
-                number: self.number(),
-                layer: Layer::Deck,
-                place: 0,
-            },
+        };
+        Refusal {
+            number,
+            layer: Layer::Deck,
+            place: 0,
         }
     }
 }
 
 // A fault with its line; line 0 where no line is at fault.
-#[derive(Clone, Copy)]
+#[derive(Clone, Copy, Debug, PartialEq, Eq)]
 pub struct DeckRefusal {
     pub fault: DeckFault,
     pub line: u32,
 }
+
+impl DeckFault {
+    pub fn at(self, line: u32) -> DeckRefusal
+        ensures { result ≡ record { fault = self; line = line } }
+    {
+        DeckRefusal { fault: self, line }
+    }
+}
+
+impl error::Error for DeckRefusal {}
 
 // As the programs print it.
 impl fmt::Display for DeckRefusal {
     ghost output = { λ refusal. Some (refusal_text refusal) };
 
     fn fmt<W: fmt::Write>(&self, f: &mut fmt::Formatter<W>) -> fmt::Result {
-        let told = self.fault.refusal();
-        let number = told.number;
-        let layer = told.layer;
-        let place = told.place;
+        let Refusal {
+            number,
+            layer,
+            place,
+        } = self.fault.into();
         let line = self.line;
         write!(
             f,
             "DECK REFUSED {number} LAYER {layer} PLACE {place} LINE {line}"
         )
-    }
-}
-
-// The same answer, with the line added to a fault.
-pub fn at_line<T>(answer: Result<T, DeckFault>, line: u32) -> Result<T, DeckRefusal>
-    ensures { result ≡ at_line line answer }
-{
-    match answer {
-        Ok(value) => Ok(value),
-        Err(fault) => Err(DeckRefusal { fault, line }),
     }
 }

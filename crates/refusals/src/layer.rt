@@ -5,7 +5,7 @@ ghost use Rattle.refusals.specs.Refusals.{letter};
 use std::fmt;
 
 // The part of the engine whose question was answered no.
-#[derive(Clone, Copy)]
+#[derive(Clone, Copy, Debug, PartialEq, Eq)]
 pub enum Layer {
     Network,
     Study,
@@ -13,7 +13,7 @@ pub enum Layer {
 }
 
 // The number of the question, its layer, and the branch it is about, 0 where it is about none.
-#[derive(Clone, Copy)]
+#[derive(Clone, Copy, Debug, PartialEq, Eq)]
 pub struct Refusal {
     pub number: u32,
     pub layer: Layer,

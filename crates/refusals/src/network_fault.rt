@@ -3,24 +3,26 @@ ghost use Rattle.std.specs.Prelude.{◌≡◌};
 ghost use Rattle.refusals.specs.Refusals.{network_refusal};
 
 use crate::layer::{Layer, Refusal};
+use std::fmt;
+use thiserror::Error;
 
-#[derive(Clone, Copy)]
+#[derive(Clone, Copy, Debug, PartialEq, Eq, Error)]
 pub enum NetworkFault {
-    // not 2 to 32 nodes
+    #[error("there are not 2 to 32 nodes")]
     NodeCount,
-    // not 1 to 64 branches
+    #[error("there are not 1 to 64 branches")]
     BranchCount,
-    // the branch of this number has an end that is no node
+    #[error("branch {0} has an end that is no node")]
     BadEnd(u32),
-    // the branch of this number has no legal rating
+    #[error("branch {0} has no legal rating")]
     BadRating(u32),
 }
 
-impl NetworkFault {
-    pub fn refusal(self) -> Refusal
-        ensures { result ≡ network_refusal self }
-    {
-        let (number, place) = match self {
+impl From<NetworkFault> for Refusal {
+    ghost from_gives = { λ fault r. r ≡ network_refusal fault };
+
+    fn from(fault: NetworkFault) -> Refusal {
+        let (number, place) = match fault {
             NetworkFault::NodeCount => (1, 0),
             NetworkFault::BranchCount => (2, 0),
             NetworkFault::BadEnd(branch) => (3, branch),

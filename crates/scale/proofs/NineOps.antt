@@ -45,26 +45,17 @@ module _ (x y : Decimal) where
   plus_none : y.figures ≡ 0 → worth x =ᶠ (worth x +ᶠ worth y)
   plus_none e = rw e (omega arith)
 
-  none-plus : x.figures ≡ 0 → worth y =ᶠ (worth x +ᶠ worth y)
-  none-plus e = rw e (omega arith)
-
   plus_comm : (worth y +ᶠ worth x) =ᶠ (worth x +ᶠ worth y)
   plus_comm = omega arith
 
   pub plus-none-floor : y.figures ≡ 0 → x ≡ floor (worth x +ᶠ worth y)
   plus-none-floor e = floor-worth x ∙ floor-same (worth x) (worth x +ᶠ worth y) (plus_none e)
 
-  pub none-plus-floor : x.figures ≡ 0 → y ≡ floor (worth x +ᶠ worth y)
-  none-plus-floor e = floor-worth y ∙ floor-same (worth y) (worth x +ᶠ worth y) (none-plus e)
-
   pub plus-comm-floor : floor (worth y +ᶠ worth x) ≡ floor (worth x +ᶠ worth y)
   plus-comm-floor = floor-same (worth y +ᶠ worth x) (worth x +ᶠ worth y) plus_comm
 
   pub plus-none-ceiling : y.figures ≡ 0 → x ≡ ceiling (worth x +ᶠ worth y)
   plus-none-ceiling e = ceiling-worth x ∙ ceiling-same (worth x) (worth x +ᶠ worth y) (plus_none e)
-
-  pub none-plus-ceiling : x.figures ≡ 0 → y ≡ ceiling (worth x +ᶠ worth y)
-  none-plus-ceiling e = ceiling-worth y ∙ ceiling-same (worth y) (worth x +ᶠ worth y) (none-plus e)
 
   pub plus-comm-ceiling : ceiling (worth y +ᶠ worth x) ≡ ceiling (worth x +ᶠ worth y)
   plus-comm-ceiling = ceiling-same (worth y +ᶠ worth x) (worth x +ᶠ worth y) plus_comm

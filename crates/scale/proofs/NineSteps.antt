@@ -1,15 +1,12 @@
 -- The steps by which m / 10^e is brought to nine figures.
-use Rattle.std.proofs.Common.{◌≡◌, ℕ, ◌+◌, ◌-◌, ◌*◌, ◌/◌, ◌^◌, ◌<◌, ◌≤◌, refl, ap, ◌∙◌, ap₂, ⊎_elim, mul-le-mul_right, arith}
+use Rattle.std.proofs.Common.{◌≡◌, ℕ, ◌+◌, ◌-◌, ◌*◌, ◌^◌, ◌<◌, ◌≤◌, ◌⊎◌, refl, ap, ◌∙◌, mul-le-mul_right, mul-lt-mul_of_pos_right, pow-add, arith, inl, inr}
 use native.Mathlib.Nat.{pow-le-pow_right}
-use Rattle.std.proofs.lemmas.Bool.{cases_lt}
-use Rattle.scale.specs.Quotients.{ceil_div}
-use Rattle.scale.specs.Fractions.{Fraction, ◌≤ᶠ◌, ◌=ᶠ◌, decimal, whole}
+use Rattle.scale.specs.Fractions.{Fraction, ◌≤ᶠ◌, ◌=ᶠ◌, decimal}
 use Rattle.scale.specs.NineFigures.{worth, nought, unit, floor, ceiling}
 use Rattle.scale.specs.declared.nine_figures.Decimal.{Decimal}
 use Rattle.scale.specs.FractionOrder.{◌<ᶠ◌, at-most-below, below-at-most}
-use Rattle.scale.specs.NineForms.{none_between, one_form, shorter}
+use Rattle.scale.specs.NineForms.{none_between, one_form, pow-positive, ten-pow, shorter}
 use Rattle.scale.specs.NineLaws.{RoundedDown, RoundedUp, rounds, none_above, ten-more, unit-down, nought-down, unit-up, nought-up, least-up}
-use Rattle.scale.specs.QuotientsLemmas.{ceil-above, ceil-before}
 use Rattle.scale.specs.Roundings.{down_is, down_moves, down_same, down_value, up_is, up_moves, up_same, up_value}
 
 pub floor-is : (q : Fraction) (x : Decimal) → RoundedDown q x → x ≡ floor q
@@ -37,60 +34,59 @@ ceiling-step q m e h lt i =
     up_moves rounds one_form (decimal m e) q i
     (λ y k. rw s at (none_between y (m - 1) e (omega arith) (below-at-most (decimal (m - 1) e) q (worth y) lt k)))
 
+-- nine figures, and one more in the last place where something was cut off
+pub ceiling-cut : (q : Fraction) (m e u : ℕ) → 100000000 ≤ m → q <ᶠ decimal (m + 1) e → (u ≡ m) × (q =ᶠ decimal m e) ⊎ (u ≡ m + 1) × (decimal m e <ᶠ q) → ceiling (decimal u e) ≡ ceiling q
+ceiling-cut q m e u h i =
+    elim [
+      | inl k ↦ rw k.0 (ceiling-same (decimal m e) q (omega (arith, k.1)))
+      | inr k ↦ rw k.0 (ceiling-step q (m + 1) e (omega arith) (let n : m + 1 - 1 ≡ m = omega arith in rw n k.1) (omega (arith, i)))
+    ]
+
+-- a number with more figures, and with fewer
+module _ (m e k : ℕ) where
+  pub grown-is : decimal m e =ᶠ decimal (m * 10 ^ k) (e + k)
+  grown-is = let s = pow-add 10 e k in rw s (omega arith)
+
+  module _ (h : k ≤ e) where
+    at-places : 10 ^ e ≡ 10 ^ (e - k) * 10 ^ k
+    at-places = let s : e ≡ (e - k) + k = omega arith in ap (λ n. 10 ^ n) s ∙ pow-add 10 (e - k) k
+
+    pub cut-below : (d : ℕ) → d * 10 ^ k ≤ m → decimal d (e - k) ≤ᶠ decimal m e
+    cut-below d i = let p = mul-le-mul_right (10 ^ (e - k)) i in rw at-places (omega arith)
+
+    pub cut-above : (d : ℕ) → m < d * 10 ^ k → decimal m e <ᶠ decimal d (e - k)
+    cut-above d i = let p = mul-lt-mul_of_pos_right i (pow-positive (e - k)) in rw at-places (omega arith)
+
+    pub cut-before : (d : ℕ) → d * 10 ^ k < m → decimal d (e - k) <ᶠ decimal m e
+    cut-before d i = let p = mul-lt-mul_of_pos_right i (pow-positive (e - k)) in rw at-places (omega arith)
+
+    pub cut-same : (d : ℕ) → d * 10 ^ k ≡ m → decimal m e =ᶠ decimal d (e - k)
+    cut-same d i = let p = ap (λ n. n * 10 ^ (e - k)) i in rw at-places (omega arith)
+
+-- 10^9 in the last place is one figure more
+pub ceiling-carry : (x : Decimal) (m e : ℕ) → m ≡ 1000000000 → 0 < e → x.figures ≡ 100000000 → x.exponent ≡ e - 1 → x ≡ ceiling (decimal m e)
+ceiling-carry x m e h i p q =
+    let t : 10 ^ e ≡ 10 * 10 ^ (e - 1) = let s : e ≡ (e - 1) + 1 = omega arith in ap (λ k. 10 ^ k) s ∙ ten-more (e - 1) in
+    up_value rounds one_form x ∙ ceiling-same (worth x) (decimal m e) (rw (p, q, h, t) (omega arith))
+
 module _ (m e : ℕ) where
-  ten-less : 0 < e → 10 ^ e ≡ 10 * 10 ^ (e - 1)
-  ten-less h = let s : e ≡ (e - 1) + 1 = omega arith in ap (λ k. 10 ^ k) s ∙ ten-more (e - 1)
+  pub from-first : (f : ℕ) → 10 ^ f ≤ m → e ≤ f → 10 ^ e ≤ m
+  from-first f h i = let p : 10 ^ e ≤ 10 ^ f = pow-le-pow_right {n = 10} (omega arith) i in omega arith
 
-  -- one figure less
-  cut-figure : 1000000000 ≤ m → 0 < e → floor (decimal (m / 10) (e - 1)) ≡ floor (decimal m e)
-  cut-figure h i =
-      let t = ten-less i in
-      let p = mul-le-mul_right (10 ^ (e - 1)) (let l : m / 10 * 10 ≤ m = omega arith in l) in
-      let q = mul-le-mul_right (10 ^ (e - 1)) (let l : m + 1 ≤ (m / 10 + 1) * 10 = omega arith in l) in
-      let r = (decimal m (e - 1)).above_zero in
-      floor-step (decimal m e) (m / 10) (e - 1) (omega arith) (rw t (omega arith)) (rw t (omega arith))
+  pub floor-unit : 10 ^ e ≤ m → unit ≡ floor (decimal m e)
+  floor-unit h = floor-is (decimal m e) unit (unit-down (decimal m e) (omega arith))
 
-  round-figure : 1000000000 ≤ m → 0 < e → ceiling (decimal (ceil_div m 10) (e - 1)) ≡ ceiling (decimal m e)
-  round-figure h i =
-      let t = ten-less i in
-      let c = 10 ^ (e - 1) in
-      let p = mul-le-mul_right c (let l : m ≤ ceil_div m 10 * 10 = ceil-above m 10 (omega arith) in l) in
-      let r = (decimal m (e - 1)).above_zero in
-      ⊎_elim
-      (λ (z : 1000000000 < m).
-      let b = ceil-before m 10 (omega arith) in
-      let q = mul-le-mul_right c (let l : (ceil_div m 10 - 1) * 10 + 1 ≤ m = omega arith in l) in
-      ceiling-step (decimal m e) (ceil_div m 10) (e - 1) (omega arith) (rw t (omega arith)) (rw t (omega arith)))
-      (λ (z : m ≤ 1000000000).
-      let s : m ≡ 1000000000 = omega arith in
-      rw s (ceiling-same (decimal 100000000 (e - 1)) (decimal 1000000000 e) (rw t (omega arith))))
-      (cases_lt 1000000000 m)
-
-  -- the same of the figures and the exponent that a step leaves
-  pub floor-shorter : (n f : ℕ) → n ≡ m / 10 → f ≡ e - 1 → 1000000000 ≤ m → 0 < e → floor (decimal n f) ≡ floor (decimal m e)
-  floor-shorter n f p q h i = ap₂ (λ n f. floor (decimal n f)) p q ∙ cut-figure h i
-
-  pub ceiling-shorter : (n f : ℕ) → n ≡ ceil_div m 10 → f ≡ e - 1 → 1000000000 ≤ m → 0 < e → ceiling (decimal n f) ≡ ceiling (decimal m e)
-  ceiling-shorter n f p q h i = ap₂ (λ n f. ceiling (decimal n f)) p q ∙ round-figure h i
-
-  from_one : 100000000 ≤ m → e ≤ 8 → whole 1 ≤ᶠ decimal m e
-  from_one h i = let p : 10 ^ e ≤ 10 ^ 8 = pow-le-pow_right {n = 10} (omega arith) i in omega arith
-
-  pub floor-unit : 100000000 ≤ m → e ≤ 8 → unit ≡ floor (decimal m e)
-  floor-unit h i = floor-is (decimal m e) unit (unit-down (decimal m e) (from_one h i))
-
-  pub ceiling-unit : 100000000 ≤ m → e ≤ 8 → unit ≡ ceiling (decimal m e)
-  ceiling-unit h i =
-      let p = from_one h i in
-      ceiling-is (decimal m e) unit (unit-up (decimal m e) (omega arith))
+  pub ceiling-unit : 10 ^ e ≤ m → unit ≡ ceiling (decimal m e)
+  ceiling-unit h = ceiling-is (decimal m e) unit (unit-up (decimal m e) (let z = pow-positive e in omega arith))
 
   pub floor-nought : m ≤ 999999999 → 60 < e → nought ≡ floor (decimal m e)
   floor-nought h i = floor-is (decimal m e) nought (nought-down (decimal m e) (shorter m e 100000000 60 h (omega arith) i))
 
-  pub ceiling-least : (x : Decimal) → x.figures ≡ 100000000 → x.exponent ≡ 60 → 0 < m → m ≤ 999999999 → 60 < e → x ≡ ceiling (decimal m e)
+  pub ceiling-least : (x : Decimal) → x.figures ≡ 100000000 → x.exponent ≡ 60 → 0 < m → m ≤ 1000000000 → 60 < e → x ≡ ceiling (decimal m e)
   ceiling-least x p q h i j =
-      let s = shorter m e 100000000 60 i (omega arith) j in
-      ceiling-is (decimal m e) x (least-up (decimal m e) x p q h (rw (p, q) (omega arith)))
+      let t = ten-pow 60 e j in
+      let s = mul-le-mul_right (10 ^ 60) i in
+      ceiling-is (decimal m e) x (least-up (decimal m e) x p q h (rw (p, q) (omega (arith, s, t))))
 
 pub floor-none : (e : ℕ) → nought ≡ floor (decimal 0 e)
 floor-none e = let p = (decimal 0 e).above_zero in floor-is (decimal 0 e) nought (nought-down (decimal 0 e) (omega arith))

@@ -15,3 +15,4 @@ pub mod RowSets
 pub mod Tables
 pub mod Plans
 pub mod Paid
+pub mod Full

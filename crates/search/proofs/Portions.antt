@@ -80,21 +80,23 @@ changed rows w c x i l e =
       | inr q ↦ ap (λ (r : Row). r.inside) (get_or-set_other rows c i x d q)
     ])
 
-pub run-keeps : RunKeeps
-unfolding run tried barring
-run-keeps net door zero s = record { rows_stay = omega arith; cuts_stay = λ i l. refl }
-run-keeps net door (suc k) s = both (run-keeps net door k (next net door s)) (by-status (Keeps net s) net door s (λ _. once s) (record { rows_stay = omega arith; cuts_stay = λ i l. refl }))
-  where
-    once : (s : Search) → Keeps net s (record { rows = tried net door s.rows; tries = s.tries + 1 })
-    once s =
-        let c = current net s.rows in
-        let x = barring net (row_at s.rows c) in
-        let w = written net door (row_at s.rows c) in
-        record {
-          rows_stay = omega (arith, length-append (set s.rows c x) w, length-set s.rows c x);
-          cuts_stay = λ i l. same-cuts net (row_at (set s.rows c x ++ w) i) (row_at s.rows i) (changed s.rows w c x i l refl);
-        }
+-- a try leaves what was listed where it was
+pub try-leaves : (net : Net) (door : ℕ) (s : Search) → Keeps net s (record { rows = tried net door s.rows; tries = s.tries + 1 })
+unfolding tried barring
+try-leaves net door s =
+    let c = current net s.rows in
+    let x = barring net (row_at s.rows c) in
+    let w = written net door (row_at s.rows c) in
+    record {
+      rows_stay = omega (arith, length-append (set s.rows c x) w, length-set s.rows c x);
+      cuts_stay = λ i l. same-cuts net (row_at (set s.rows c x ++ w) i) (row_at s.rows i) (changed s.rows w c x i l refl);
+    }
 
+pub run-keeps : RunKeeps
+unfolding run
+run-keeps net door zero s = record { rows_stay = omega arith; cuts_stay = λ i l. refl }
+run-keeps net door (suc k) s = both (run-keeps net door k (next net door s)) (by-status (Keeps net s) net door s (λ _. try-leaves net door s) (record { rows_stay = omega arith; cuts_stay = λ i l. refl }))
+  where
     both : {t u : Search} → Keeps net t u → Keeps net s t → Keeps net s u
     both p q = record { rows_stay = omega arith; cuts_stay = λ i l. p.cuts_stay i (let m = q.rows_stay in omega arith) ∙ q.cuts_stay i l }
 

@@ -124,12 +124,12 @@ module _ {net : Net} {head door : ℕ} (legal : Legal net) (aim : Aim net head d
     paid = omega (arith, some-barred aim.door_below (first_row net head door) first_good);
   }
 
-  more : (s : Search) → Inv net head door s → status net door s.rows ≡ More → Inv net head door (record { rows = tried net door s.rows; tries = s.tries + 1 })
+  -- a try of the current row, whether or not there is room for what it writes
+  pub try-keeps : (s : Search) → Inv net head door s → current net s.rows < length s.rows → Inv net head door (record { rows = tried net door s.rows; tries = s.tries + 1 })
   unfolding tried
-  more s v e =
+  try-keeps s v l =
       let rows = s.rows in
       let i = current net rows in
-      let l = more-open net door rows e in
       let r = row_at rows i in
       let d : Row = record { inside = 0; barred = 0 } in
       let g = All-get_or (Good net head door) rows i d l v.good in
@@ -163,7 +163,7 @@ module _ {net : Net} {head door : ℕ} (legal : Legal net) (aim : Aim net head d
   pub always : (k : ℕ) (s : Search) → Inv net head door s → Inv net head door (run net door k s)
   unfolding run
   always zero s v = v
-  always (suc k) s v = always k (next net door s) (by-status (Inv net head door) net door s (more s v) v)
+  always (suc k) s v = always k (next net door s) (by-status (Inv net head door) net door s (λ e. try-keeps s v (more-open net door s.rows e)) v)
 
   module _ (s : Search) (v : Inv net head door s) where
     pub good_at : (i : ℕ) → i < length s.rows → Good net head door (row_at s.rows i)

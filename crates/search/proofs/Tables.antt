@@ -1,9 +1,10 @@
 -- The rows of a table: how many they are, and one of them read or changed.
-use Rattle.std.proofs.Common.{◌≡◌, ℕ, ◌<◌, ◌≤◌, List, ◌++◌, length, get_or, take, drop, set, Some, None, sym, ap, ◌∙◌, arith}
+use Rattle.std.proofs.Common.{◌≡◌, ℕ, ◌<◌, ◌≤◌, List, ◌++◌, length, get_or, take, drop, set, Some, None, sym, ap, ◌∙◌, ap₂, arith}
 use lib.Bits.{bit_or}
 use Rattle.std.specs.List.{slice_get}
 use Rattle.std.proofs.lemmas.List.{length-take-le, get_or-take, take-append-drop, set-append_left, take_at, length-set}
 use Rattle.std.proofs.lemmas.Option.{slice_get-get_or, slice_get_past}
+use Rattle.sets.proofs.Nth.{nth-is}
 use Rattle.search.specs.declared.row.Row.{Row}
 use Rattle.search.specs.declared.table.Table.{Table}
 use Rattle.search.specs.Search.{single, row_at, room}
@@ -11,10 +12,6 @@ use Rattle.search.specs.Tables.{rows_of, barred_at}
 
 abbrev blank : Row
 blank = record { inside = 0; barred = 0 }
-
--- a row with the set m barred too
-abbrev joined : Row → ℕ → Row
-joined r m = record { inside = r.inside; barred = bit_or r.barred m }
 
 pub length-rows : (t : Table) → length (rows_of t) ≡ t.count
 length-rows t = length-take-le t.count t.rows (omega (arith, t.few, t.whole))
@@ -30,13 +27,13 @@ take-set-lt n xs i x h l =
     let moved : set (take n xs ++ drop n xs) i x ≡ set (take n xs) i x ++ drop n xs = set-append_left (take n xs) (drop n xs) i x (omega arith) in
     ap (λ ys. take n (set ys i x)) (sym whole) ∙ ap (take n) moved ∙ take_at (set (take n xs) i x) (drop n xs) n (length-set (take n xs) i x ∙ ln)
 
-row_read : (t : Table) (k : ℕ) → k < t.count → get_or t.rows k blank ≡ row_at (rows_of t) k
-row_read t k h = sym (get_or-take t.count t.rows k blank h)
+row_read : (t : Table) (k : ℕ) (d : Row) → k < t.count → get_or t.rows k d ≡ get_or (rows_of t) k d
+row_read t k d h = sym (get_or-take t.count t.rows k d h)
 
-pub row-some : (t : Table) (k : ℕ) → k < t.count → Some (get_or t.rows k blank) ≡ slice_get (rows_of t) k
-row-some t k h =
+pub row-some : (t : Table) (k : ℕ) (d : Row) → k < length (rows_of t) → Some (get_or t.rows k d) ≡ slice_get (rows_of t) k
+row-some t k d h =
     let n : length (rows_of t) ≡ t.count = length-rows t in
-    ap Some (row_read t k h) ∙ sym (slice_get-get_or (rows_of t) k blank (omega arith))
+    ap Some (row_read t k d (omega arith)) ∙ sym (slice_get-get_or (rows_of t) k d h)
 
 pub row-none : (t : Table) (k : ℕ) → t.count ≤ k → None ≡ slice_get (rows_of t) k
 row-none t k h =
@@ -44,7 +41,12 @@ row-none t k h =
     sym (slice_get_past (rows_of t) k (omega arith))
 
 -- one row written with a node barred too
-pub bar-written : (t : Table) (k v m : ℕ) → k < t.count → m ≡ single v → take t.count (set t.rows k (joined (get_or t.rows k blank) m)) ≡ barred_at k v (rows_of t)
-bar-written t k v m h e =
-    take-set-lt t.count t.rows k (joined (get_or t.rows k blank) m) h (omega (arith, t.few, t.whole))
-    ∙ ap (λ r. set (rows_of t) k (joined r m)) (row_read t k h) ∙ ap (λ n. set (rows_of t) k (joined (row_at (rows_of t) k) n)) e
+module _ (t : Table) (k : ℕ) (h : k < length (rows_of t)) where
+  there : (d : Row) → get_or t.rows k d ≡ row_at (rows_of t) k
+  there d = nth-is (rows_of t) k _ blank (sym (row-some t k d h))
+
+  pub bar-written : (v m b : ℕ) (d d' : Row) → m ≡ single v → b ≡ bit_or (get_or t.rows k d').barred m
+      → take t.count (set t.rows k (record { inside = (get_or t.rows k d).inside; barred = b })) ≡ barred_at k v (rows_of t)
+  bar-written v m b d d' e w =
+      take-set-lt t.count t.rows k _ (omega (arith, length-rows t)) (omega (arith, t.few, t.whole))
+      ∙ ap₂ (λ i b. set (rows_of t) k (record { inside = i; barred = b })) (ap (λ r. r.inside) (there d)) (w ∙ ap₂ (λ r n. bit_or r.barred n) (there d') e)

@@ -1,6 +1,6 @@
 -- One branch of a walk, one round, and rounds until nothing is added.
 use Rattle.std.proofs.Common.{◌≡◌, ℕ, zero, suc, ◌+◌, ◌-◌, ◌^◌, ◌<◌, ◌≤◌, Bool, true, false, cond, not, ◌&&◌, ◌||◌, eqb, ltb, Some, sym, refl, ap, ◌∙◌, ap₂, inl, inr, add-one, arith}
-use mathlib.Core.Bool.{and-true, and_comm}
+use mathlib.Core.Bool.{and-true, and_comm, or_comm}
 use lib.Bits.{bit_and, bit_or, and_le_r, or_lt}
 use Rattle.std.specs.List.{slice_get}
 use Rattle.std.proofs.lemmas.Nat.{pow_pos}
@@ -9,7 +9,7 @@ use Rattle.std.proofs.lemmas.Bool.Decides.{nat_tests}
 use Rattle.network.specs.declared.branch.Branch.{Branch}
 use Rattle.network.specs.Meaning.{Net, Legal}
 use Rattle.sets.specs.Masks.{has, collect, any}
-use Rattle.sets.proofs.Members.{refuted, has-collect, collect-small, has-and, has-or, has-none}
+use Rattle.sets.proofs.Members.{refuted, same-mask, has-collect, collect-small, has-and, has-or, has-none}
 use Rattle.sets.proofs.Collected.{has_first, is-collect, within-mask}
 use Rattle.sets.proofs.Nth.{nth-is, at-left-more, at-left-none}
 use Rattle.sets.proofs.Widths.{below-is}
@@ -47,19 +47,18 @@ step_small : (t : Bool) (w O m : ℕ) → O < 2 ^ 32 → m ≡ cond t (bit_or O 
 step_small true w O m s e = rw e (or_lt 32 O (single w) s (collect-small 32 (λ x. eqb x w)))
 step_small false w O m s e = rw e s
 
-swapped : (a b c : Bool) → (b || (a || c)) ≡ ((a || b) || c)
-swapped true true c = refl
-swapped true false c = refl
-swapped false true c = refl
-swapped false false c = refl
+swapped : (a b c : Bool) → c ≡ false → (b || (a || c)) ≡ (a || b)
+swapped true true c e = refl
+swapped true false c e = refl
+swapped false true c e = refl
+swapped false false c e = e
 
-pub met_by : (b : Branch) (S O m m' : ℕ) → O < 2 ^ 32 → m ≡ cond (has S b.to) (bit_or O (single b.from)) O
-    → m' ≡ cond (has S b.from) (bit_or m (single b.to)) m → m' ≡ collect 32 (λ v. meets b S v || has O v)
-met_by b S O m m' s e e' =
-    let small = step_small (has S b.from) b.to m m' (step_small (has S b.to) b.from O m s e) e' in
-    is-collect 32 32 m' (λ v. meets b S v || has O v) (omega arith) small
+pub met_by : (b : Branch) (S O m m' : ℕ) → O ≡ 0 → m ≡ cond (has S b.to) (bit_or O (single b.from)) O → m' ≡ cond (has S b.from) (bit_or m (single b.to)) m → m' ≡ collect 32 (meets b S)
+met_by b S O m m' z e e' =
+    let small = step_small (has S b.from) b.to m m' (step_small (has S b.to) b.from O m (rw z (pow_pos 32)) e) e' in
+    is-collect 32 32 m' (meets b S) (omega arith) small
     (λ v l. step_in (has S b.from) b.to m m' v l e' ∙ ap (λ t. (eqb b.to v && has S b.from) || t) (step_in (has S b.to) b.from O m v l e)
-    ∙ swapped (eqb b.from v && has S b.to) (eqb b.to v && has S b.from) (has O v))
+    ∙ swapped (eqb b.from v && has S b.to) (eqb b.to v && has S b.from) (has O v) (ap (λ q. has q v) z ∙ has-none v))
     (λ v l. within-mask 32 m' v small l)
 
 -- whether branch j may be used and joins v to a member of S
@@ -73,13 +72,18 @@ met_of over net S k = collect 32 (λ v. any k (joins over net S v))
 pub met-none : (over : Over) (net : Net) (S : ℕ) → 0 ≡ met_of over net S 0
 met-none over net S = is-collect 32 32 0 (λ v. any 0 (joins over net S v)) (omega arith) (pow_pos 32) (λ v _. has-none v ∙ sym (any_none _)) (λ v _. has-none v)
 
-pub met-yes : (over : Over) (net : Net) (S k m m' : ℕ) (b : Branch) → slice_get net.branches k ≡ Some b → carries over b.condition ≡ true
-    → m ≡ met_of over net S k → m' ≡ collect 32 (λ v. meets b S v || has m v) → m' ≡ met_of over net S (k + 1)
-met-yes over net S k m m' b e t inv h =
+-- two such sets united
+or-collect : (n : ℕ) (f g : ℕ → Bool) → bit_or (collect n f) (collect n g) ≡ collect n (λ v. g v || f v)
+or-collect n f g = same-mask n _ _ (or_lt n _ _ (collect-small n f) (collect-small n g)) (collect-small n _) (λ v l.
+    has-or (collect n f) (collect n g) v ∙ or_comm (has (collect n f) v) (has (collect n g) v) ∙ ap₂ ◌||◌ (has-collect n g v l) (has-collect n f v l) ∙ sym (has-collect n (λ v. g v || f v) v l))
+
+pub met-yes : (over : Over) (net : Net) (S k m j : ℕ) (b : Branch) → slice_get net.branches k ≡ Some b → carries over b.condition ≡ true
+    → m ≡ met_of over net S k → j ≡ collect 32 (meets b S) → bit_or m j ≡ met_of over net S (k + 1)
+met-yes over net S k m j b e t inv h =
     let q = answered net k b e in
-    h ∙ collect-same 32 _ _ (λ v l.
-    ap₂ ◌||◌ (ap (λ x. meets x S v) q ∙ sym (ap (λ u. u && meets (branch net k) S v) (sym (ap (λ x. carries over x.condition) q) ∙ t)))
-    (ap (λ x. has x v) inv ∙ has-collect 32 (λ v. any k (joins over net S v)) v l) ∙ sym (any-more k (joins over net S v)))
+    ap₂ bit_or inv h ∙ or-collect 32 (λ v. any k (joins over net S v)) (meets b S) ∙ collect-same 32 _ _ (λ v l.
+    ap (λ u. u || any k (joins over net S v)) (ap (λ x. meets x S v) q ∙ sym (ap (λ u. u && meets (branch net k) S v) (sym (ap (λ x. carries over x.condition) q) ∙ t)))
+    ∙ sym (any-more k (joins over net S v)))
 
 pub met-no : (over : Over) (net : Net) (S k m : ℕ) (b : Branch) → slice_get net.branches k ≡ Some b → carries over b.condition ≡ false
     → m ≡ met_of over net S k → m ≡ met_of over net S (k + 1)

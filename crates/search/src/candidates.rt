@@ -6,17 +6,16 @@ ghost use Rattle.search.specs.Search.{candidate};
 use crate::reach::{Over, touching};
 use crate::row::Row;
 use network::traits::Network;
-use sets::node_set::{difference, lowest};
+use sets::set::NodeSet;
 
-fn candidates_of<N: Network>(network: &N, row: Row) -> u32
-    ensures { result ≡ collect (N.net network.now).nodes (candidate (N.net network.now) row) }
+fn candidates_of<N: Network>(network: &N, row: &Row) -> NodeSet
+    ensures { result ≡ collect (N.net network.now).nodes (candidate (N.net network.now) row.now) }
 {
-    let touched = touching(network, Over::Present, row.inside);
-    difference(difference(touched, row.inside), row.barred)
+    touching(network, Over::Present, row.inside) - row.inside - row.barred
 }
 
-pub(crate) fn lowest_candidate<N: Network>(network: &N, row: Row) -> Option<u32>
-    ensures { result ≡ lowest_below (N.net network.now).nodes (candidate (N.net network.now) row) }
+pub(crate) fn lowest_candidate<N: Network>(network: &N, row: &Row) -> Option<u32>
+    ensures { result ≡ lowest_below (N.net network.now).nodes (candidate (N.net network.now) row.now) }
 {
-    lowest(candidates_of(network, row))
+    candidates_of(network, row).first()
 }

@@ -6,9 +6,9 @@ ghost use Rattle.search.specs.Steps.{parts};
 
 use crate::row::Row;
 use network::branch::{Branch, Condition};
+use network::branches::branches_of;
 use network::traits::Network;
-use sets::branch_set;
-use sets::node_set::{below, contains, difference};
+use sets::set::{BranchSet, NodeSet};
 
 fn can_fail(condition: Condition) -> bool
     ensures { result ≡ is_able condition }
@@ -17,30 +17,28 @@ fn can_fail(condition: Condition) -> bool
 }
 
 // Whether b is able to fail and has exactly one end inside.
-fn is_parted(inside: u32, b: Branch) -> bool
+fn is_parted(inside: NodeSet, b: Branch) -> bool
     ensures { result ≡ parts inside b }
 {
-    can_fail(b.condition) && contains(inside, b.from) != contains(inside, b.to)
+    can_fail(b.condition) && inside.contains(b.from) != inside.contains(b.to)
 }
 
 // The branches able to fail with exactly one end inside.
-pub fn branch_set_of<N: Network>(network: &N, row: Row) -> u64
-    ensures { result ≡ branch_set (N.net network.now) row }
+pub fn branch_set_of<N: Network>(network: &N, row: &Row) -> BranchSet
+    ensures { result ≡ branch_set (N.net network.now) row.now }
 {
-    let mut set = 0;
-    for k in 0..network.branches() {
-        if let Some(b) = network.branch(k) {
-            if is_parted(row.inside, b) {
-                set |= branch_set::single(k);
-            }
+    let mut set = BranchSet::new();
+    for (k, b) in branches_of(network) {
+        if is_parted(row.inside, b) {
+            set = set | BranchSet::single(k);
         }
     }
     set
 }
 
 // The nodes not inside.
-pub fn node_vector_of<N: Network>(network: &N, row: Row) -> u32
-    ensures { result ≡ node_vector (N.net network.now) row }
+pub fn node_vector_of<N: Network>(network: &N, row: &Row) -> NodeSet
+    ensures { result ≡ node_vector (N.net network.now) row.now }
 {
-    difference(below(network.nodes()), row.inside)
+    NodeSet::below(network.nodes()) - row.inside
 }

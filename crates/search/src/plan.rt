@@ -10,7 +10,7 @@ use crate::row::Row;
 use crate::status::Status;
 use crate::table::Table;
 use network::traits::Network;
-use sets::node_set::{meet, single};
+use sets::set::NodeSet;
 
 // A node tried in a row, and the row that this writes, if it writes one.
 #[derive(Clone, Copy, Drop)]
@@ -47,7 +47,7 @@ fn current_row<N: Network>(table: &Table, network: &N, first: usize) -> usize
 {
     for k in first..table.len() {
         if let Some(row) = table.row(k) {
-            if lowest_candidate(network, row).is_some() {
+            if lowest_candidate(network, &row).is_some() {
                 return k;
             }
         }
@@ -56,31 +56,20 @@ fn current_row<N: Network>(table: &Table, network: &N, first: usize) -> usize
 }
 
 // The row of a closure, unless that holds a barred node.
-fn clear_row(inside: u32, barred: u32) -> Option<Row>
+fn clear_row(inside: NodeSet, barred: NodeSet) -> Option<Row>
     ensures { result ≡ clear_row inside barred }
 {
-    if meet(inside, barred) {
-        None
-    } else {
-        Some(Row { inside, barred })
-    }
+    inside.is_disjoint(barred).then_some(Row { inside, barred })
 }
 
 // The row that a try of the node writes: the closure of the inside set with it, and the barred set as it was.
-fn row_by<N: Network>(network: &N, door: u32, row: Row, node: u32) -> Option<Row>
-    ensures { result ≡ row_by (N.net network.now) door row node }
+fn row_by<N: Network>(network: &N, door: u32, row: &Row, node: u32) -> Option<Row>
+    ensures { result ≡ row_by (N.net network.now) door row.now node }
 {
     clear_row(
-        closure_of(network, door, row.inside | single(node)),
+        closure_of(network, door, row.inside | NodeSet::single(node)),
         row.barred,
     )
-}
-
-// Whether there is a row to be written, and no room for it.
-fn lacks_room(table: &Table, written: Option<Row>) -> bool
-    ensures { result ≡ (nat_le room (length (rows_of table.now)) && is_some written) }
-{
-    table.is_full() && written.is_some()
 }
 
 // The next try, where the first rows have no candidate.
@@ -92,11 +81,11 @@ pub(crate) fn next_try<N: Network>(table: &Table, network: &N, door: u32, first:
     let Some(row) = table.row(k) else {
         return Next::Finish;
     };
-    let Some(node) = lowest_candidate(network, row) else {
+    let Some(node) = lowest_candidate(network, &row) else {
         return Next::Finish;
     };
-    let written = row_by(network, door, row, node);
-    if lacks_room(table, written) {
+    let written = row_by(network, door, &row, node);
+    if written.is_some() && table.is_full() {
         return Next::Fill;
     }
     Next::Go(Try {

@@ -8,13 +8,13 @@ use crate::closure::closure_of;
 use crate::reach::{Over, reach};
 use crate::row::Row;
 use network::traits::Network;
-use sets::node_set::{contains, single};
+use sets::set::NodeSet;
 
 // Whether the branches that may be used join two nodes.
 fn has_chain<N: Network>(network: &N, over: Over, head: u32, door: u32) -> bool
     ensures { result ≡ linked (N.net network.now) (kept over (N.net network.now)) head door }
 {
-    contains(reach(network, over, 0, single(head)), door)
+    reach(network, over, NodeSet::new(), NodeSet::single(head)).contains(door)
 }
 
 // Is the door joined to the head?
@@ -36,7 +36,7 @@ pub fn first_row<N: Network>(network: &N, head: u32, door: u32) -> Row
     ensures { result ≡ first_row (N.net network.now) head door }
 {
     Row {
-        inside: closure_of(network, door, single(head)),
-        barred: single(door),
+        inside: closure_of(network, door, NodeSet::single(head)),
+        barred: NodeSet::single(door),
     }
 }

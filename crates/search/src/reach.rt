@@ -1,12 +1,13 @@
 // The nodes reached from a set of nodes.
-ghost use Rattle.std.specs.Prelude.{◌≡◌, ◌||◌};
-ghost use Rattle.sets.specs.Masks.{has, collect};
+ghost use Rattle.std.specs.Prelude.{◌≡◌};
+ghost use Rattle.sets.specs.Masks.{collect};
 ghost use Rattle.search.specs.Search.{meets, touches, widened, spread};
 ghost use Rattle.search.specs.Steps.{carries, kept, avoiding};
 
 use network::branch::{Branch, Condition};
+use network::branches::branches_of;
 use network::traits::Network;
-use sets::node_set::{below, contains, difference, single};
+use sets::set::NodeSet;
 
 // Which branches a walk may use: those not failed, or the working ones alone.
 #[derive(Clone, Copy)]
@@ -25,45 +26,43 @@ fn is_usable(over: Over, condition: Condition) -> bool
     }
 }
 
-// The nodes that b joins to a member of the set, with others.
-fn joined_by(b: Branch, set: u32, others: u32) -> u32
-    ensures { result ≡ collect 32 (λ v. meets b set v || has others v) }
+// The nodes that b joins to a member of the set.
+fn joined_by(b: Branch, set: NodeSet) -> NodeSet
+    ensures { result ≡ collect 32 (meets b set) }
 {
-    let mut met = others;
-    if contains(set, b.to) {
-        met |= single(b.from);
+    let mut met = NodeSet::new();
+    if set.contains(b.to) {
+        met.insert(b.from);
     }
-    if contains(set, b.from) {
-        met |= single(b.to);
+    if set.contains(b.from) {
+        met.insert(b.to);
     }
     met
 }
 
 // The nodes that a branch joins to a member of the set.
-pub(crate) fn touching<N: Network>(network: &N, over: Over, set: u32) -> u32
+pub(crate) fn touching<N: Network>(network: &N, over: Over, set: NodeSet) -> NodeSet
     ensures { result ≡ collect (N.net network.now).nodes (touches (N.net network.now) (kept over (N.net network.now)) set) }
 {
-    let mut met = 0;
-    for k in 0..network.branches() {
-        if let Some(b) = network.branch(k) {
-            if is_usable(over, b.condition) {
-                met = joined_by(b, set, met);
-            }
+    let mut met = NodeSet::new();
+    for (_, b) in branches_of(network) {
+        if is_usable(over, b.condition) {
+            met = met | joined_by(b, set);
         }
     }
     met
 }
 
 // The set with what it touches.
-fn widen<N: Network>(network: &N, over: Over, avoid: u32, set: u32) -> u32
+fn widen<N: Network>(network: &N, over: Over, avoid: NodeSet, set: NodeSet) -> NodeSet
     ensures { result ≡ widened (N.net network.now).nodes (avoiding over (N.net network.now) avoid) set }
 {
-    let near = difference(touching(network, over, set), avoid);
-    (set | near) & below(network.nodes())
+    let near = touching(network, over, set) - avoid;
+    (set | near) & NodeSet::below(network.nodes())
 }
 
 // The nodes reached from the start by way of nodes that are not to be avoided.
-pub(crate) fn reach<N: Network>(network: &N, over: Over, avoid: u32, start: u32) -> u32
+pub(crate) fn reach<N: Network>(network: &N, over: Over, avoid: NodeSet, start: NodeSet) -> NodeSet
     ensures { result ≡ spread (N.net network.now).nodes (avoiding over (N.net network.now) avoid) (N.net network.now).nodes start }
 {
     let mut set = start;

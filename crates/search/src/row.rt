@@ -1,6 +1,8 @@
 // A row of the search: the nodes inside, and those that may not come inside.
+use sets::set::NodeSet;
+
 #[derive(Clone, Copy, Debug, PartialEq, Eq)]
 pub struct Row {
-    pub inside: u32,
-    pub barred: u32,
+    pub inside: NodeSet,
+    pub barred: NodeSet,
 }

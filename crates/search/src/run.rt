@@ -17,13 +17,13 @@ struct Progress {
 }
 
 // One try more, after which the rows before its own have no candidate.
-fn counted(progress: Progress, t: Try) -> Progress
+fn counted(progress: Progress, row: usize) -> Progress
     requires { progress.tries + 1 < 4294967296 }
-    ensures { result ≡ record { tries = progress.tries + 1; first = t.row } }
+    ensures { result ≡ record { tries = progress.tries + 1; first = row } }
 {
     Progress {
         tries: progress.tries + 1,
-        first: t.row,
+        first: row,
     }
 }
 
@@ -47,8 +47,8 @@ pub fn run_tries<N: Network>(table: &mut Table, network: &N, door: u32, budget: 
         let Next::Go(t) = next_try(table, network, door, progress.first) else {
             return progress.tries;
         };
+        progress = counted(progress, t.row);
         make(table, t);
-        progress = counted(progress, t);
     }
     progress.tries
 }

@@ -3,3 +3,4 @@ pub mod Shifts
 pub mod Collected
 pub mod Widths
 pub mod Nth
+pub mod Listed

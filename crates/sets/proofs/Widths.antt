@@ -1,13 +1,18 @@
 -- What the operations on a mask of k bits give, for every width k.
-use Rattle.std.proofs.Common.{◌≡◌, ℕ, zero, suc, ◌-◌, ◌*◌, ◌/◌, ◌%◌, ◌^◌, ◌<◌, ◌≤◌, Bool, false, not, ◌&&◌, eqb, ltb, Some, None, sym, refl, ap, ◌∙◌, inl, inr, mod-eq_of_lt, arith}
+use Rattle.std.proofs.Common.{◌≡◌, ℕ, zero, suc, ◌-◌, ◌/◌, ◌%◌, ◌^◌, ◌<◌, ◌≤◌, Bool, false, not, ◌&&◌, eqb, ltb, Some, None, sym, refl, ap, ◌∙◌, inl, inr, min, arith}
 use lib.Bits.{bit_and, and_lt}
 use lib.Count.{count_trailing_zeros, under}
+use mathlib.Core.Bool.{not-not}
 use Rattle.std.proofs.lemmas.Nat.{pow_below, pow_pos}
 use Rattle.std.proofs.lemmas.Bool.{cases_Bool, cases_lt, lt-ltb, le-ltb, eq-eqb, ne_eqb, cond-true, cond-false}
 use Rattle.sets.specs.Masks.{has, collect, any, least, lowest, ◌∈◌, ◌∉◌}
 use Rattle.sets.proofs.Members.{clash, refuted, has-zero, has-suc, has-none, same-mask, below-mask, has-and, has-single, decides-any, least-is}
-use Rattle.sets.proofs.Shifts.{least-unique}
+use Rattle.sets.proofs.Shifts.{has-bit, least-unique}
 use Rattle.sets.proofs.Collected.{has_first, is-collect, within-mask}
+
+-- `S & (1 << v) != 0`
+pub member-is : (S v : ℕ) → not (eqb (bit_and S (2 ^ v)) 0) ≡ has S v
+member-is S v = ap not (has-bit S v) ∙ not-not (has S v)
 
 -- `1 << v`, and no member where v is no number of k bits
 pub single-is : (k v : ℕ) → v < k → 2 ^ v ≡ collect k (λ w. eqb w v)
@@ -17,36 +22,30 @@ single-is k v l = is-collect k k (2 ^ v) (λ w. eqb w v) (omega arith) (pow_belo
 pub single-none : (k v : ℕ) → k ≤ v → 0 ≡ collect k (λ w. eqb w v)
 single-none k v l = is-collect k k 0 (λ w. eqb w v) (omega arith) (pow_pos k) (λ w h. has-none w ∙ sym (ne_eqb w v (λ e. omega arith))) (λ w _. has-none w)
 
--- a shift within the width loses nothing
-shifted : (k v : ℕ) → v < k → 1 * 2 ^ v % 2 ^ k ≡ 2 ^ v
-shifted k v l = let q = pow_below v k l in let e : 1 * 2 ^ v ≡ 2 ^ v = omega arith in rw e (mod-eq_of_lt q)
+-- the n lowest bits, and all k of them where n is past the width
+pub ones-small : (k n : ℕ) → n ≤ k → 2 ^ n - 1 < 2 ^ k
+ones-small k n l = elim (cases_lt n k) [
+  | inl h ↦ let q = pow_below n k h in omega arith
+  | inr h ↦ let e : n ≡ k = omega arith in rw e (let q = pow_pos k in omega arith)
+]
 
-pub single-shift : (k v : ℕ) → v < k → 1 * 2 ^ v % 2 ^ k ≡ collect k (λ w. eqb w v)
-single-shift k v l = shifted k v l ∙ single-is k v l
-
--- `(1 << n) - 1`
 pub below-is : (k n : ℕ) → n ≤ k → 2 ^ n - 1 ≡ collect k (λ v. ltb v n)
-below-is k n l = is-collect k k (2 ^ n - 1) (λ v. ltb v n) (omega arith) small (λ v _. has_first n v) (λ v h. has_first n v ∙ le-ltb v n (omega arith))
-  where
-    small : 2 ^ n - 1 < 2 ^ k
-    small = elim (cases_lt n k) [
-      | inl h ↦ let q = pow_below n k h in omega arith
-      | inr h ↦ let e : n ≡ k = omega arith in rw e (let q = pow_pos k in omega arith)
-    ]
+below-is k n l = is-collect k k (2 ^ n - 1) (λ v. ltb v n) (omega arith) (ones-small k n l) (λ v _. has_first n v) (λ v h. has_first n v ∙ le-ltb v n (omega arith))
 
-pub below-shift : (k n : ℕ) → n < k → 1 * 2 ^ n % 2 ^ k - 1 ≡ collect k (λ v. ltb v n)
-below-shift k n l = ap (λ m. m - 1) (shifted k n l) ∙ below-is k n (omega arith)
+pub below-min : (k n m : ℕ) → m ≡ min n k → 2 ^ m - 1 ≡ collect k (λ v. ltb v n)
+below-min k n m e = elim (cases_lt n k) [
+  | inl h ↦ let q : m ≡ n = omega arith in rw q (below-is k n (omega arith))
+  | inr h ↦
+      let q : m ≡ k = omega arith in
+      rw q (is-collect k k (2 ^ k - 1) (λ v. ltb v n) (omega arith) (ones-small k k (omega arith))
+      (λ v l. has_first k v ∙ lt-ltb v k l ∙ sym (lt-ltb v n (omega arith))) (λ v l. has_first k v ∙ le-ltb v k l))
+]
 
--- every number of k bits
-pub all-is : (k n : ℕ) → k ≤ n → 2 ^ k - 1 ≡ collect k (λ v. ltb v n)
-all-is k n l = is-collect k k (2 ^ k - 1) (λ v. ltb v n) (omega arith) (let q = pow_pos k in omega arith)
-    (λ v h. has_first k v ∙ lt-ltb v k h ∙ sym (lt-ltb v n (omega arith))) (λ v h. has_first k v ∙ le-ltb v k h)
-
--- `a & b != 0`
-pub meet-is : (k a b : ℕ) → a < 2 ^ k → b < 2 ^ k → not (eqb (bit_and a b) 0) ≡ any k (λ v. has a v && has b v)
-meet-is k a b s t = elim (cases_Bool (any k both)) [
-  | inl i ↦ (let m = (decides-any both k).0 i in ap not (ne_eqb (bit_and a b) 0 (λ e. clash (ap (λ q. has q m.0) e ∙ has-none m.0) (has-and a b m.0 ∙ m.2)))) ∙ sym i
-  | inr o ↦ ap not (eq-eqb (bit_and a b) 0 (same-mask k (bit_and a b) 0 (and_lt k a b s t) (pow_pos k) (λ v l. has-and a b v ∙ none o v l ∙ sym (has-none v)))) ∙ sym o
+-- `a & b == 0`
+pub disjoint-is : (k a b : ℕ) → a < 2 ^ k → b < 2 ^ k → eqb (bit_and a b) 0 ≡ not (any k (λ v. has a v && has b v))
+disjoint-is k a b s t = elim (cases_Bool (any k both)) [
+  | inl i ↦ (let m = (decides-any both k).0 i in ne_eqb (bit_and a b) 0 (λ e. clash (ap (λ q. has q m.0) e ∙ has-none m.0) (has-and a b m.0 ∙ m.2))) ∙ sym (ap not i)
+  | inr o ↦ eq-eqb (bit_and a b) 0 (same-mask k (bit_and a b) 0 (and_lt k a b s t) (pow_pos k) (λ v l. has-and a b v ∙ none o v l ∙ sym (has-none v))) ∙ sym (ap not o)
 ]
   where
     both : ℕ → Bool

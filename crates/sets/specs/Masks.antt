@@ -1,5 +1,5 @@
 -- Sets of small numbers, as bit masks, and what a test finds among the numbers below a bound.
-use Rattle.std.specs.Prelude.{◌≡◌, ℕ, zero, suc, ◌+◌, ◌*◌, ◌/◌, ◌%◌, ◌^◌, Bool, true, false, cond, ◌||◌, Some, None, Option, ◌==◌, nat_lt}
+use Rattle.std.specs.Prelude.{◌≡◌, ℕ, zero, suc, ◌+◌, ◌*◌, ◌/◌, ◌%◌, ◌^◌, Bool, true, false, cond, ◌||◌, List, [], ◌∷◌, ◌++◌, Some, None, Option, ◌==◌, nat_lt}
 
 -- whether v is a member of the set S: bit v of S
 unfoldable pub has : ℕ → ℕ → Bool
@@ -35,3 +35,8 @@ count (suc n) f = cond (f n) 1 0 + count n f
 -- the least number below n that passes a test, if there is one
 abbrev pub lowest : ℕ → (ℕ → Bool) → Option ℕ
 lowest n f = cond (nat_lt (least n f) n) (Some (least n f)) None
+
+-- the members below n of the set S, rising
+unfoldable pub members : ℕ → ℕ → List ℕ
+members zero S = []
+members (suc n) S = members n S ++ cond (has S n) (n ∷ []) []

@@ -1,5 +1,5 @@
 // Sets of nodes and of branches as bit masks, and the lemmas about them that the other crates share.
 #![tactic(auto)]
 
-pub mod branch_set;
-pub mod node_set;
+pub mod set;
+pub mod word;

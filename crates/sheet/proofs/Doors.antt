@@ -1,40 +1,119 @@
--- The sheet of a door whose aim was accepted.
-use Rattle.std.proofs.Common.{◌≡◌, ℕ, List, ◌∷◌, ◌++◌, None, Ok, Err, sym, refl, ap, ◌∙◌, append_assoc, arith}
+-- The sheet of a door by the answers to its run.
+use Rattle.std.proofs.Common.{◌≡◌, ℕ, zero, suc, ◌+◌, ◌-◌, ◌<◌, ◌≤◌, List, [], ◌∷◌, ◌++◌, length, get_or, set, take, Some, None, Ok, Err, Option, fold, sym, refl, ap, ◌∙◌, ap₂, append-nil, add-one, arith}
+use Rattle.std.specs.Result.{result_ok, result_err}
+use Rattle.std.proofs.lemmas.Grind.{flat_map-append}
+use Rattle.std.proofs.lemmas.List.{take_more_set}
+use Rattle.std.proofs.lemmas.List.Sums.{fold_push}
+use Rattle.std.proofs.lemmas.Option.{slice_get_past}
+use mathlib.Core.List.{map-append}
 use Rattle.refusals.specs.declared.study_fault.StudyFault.{StudyFault}
 use Rattle.network.specs.declared.rating.Rating.{Rating}
 use Rattle.network.specs.Meaning.{Net}
 use Rattle.network.specs.Questions.{Answer}
-use Rattle.scale.specs.Arithmetic.{Arithmetic}
-use Rattle.engine.specs.declared.call.Answer.TheVariants as answered
+use Rattle.search.specs.Search.{Search, status, run, aimed}
+use Rattle.search.proofs.Full.{run-room}
+use Rattle.engine.proofs.Later.{tries-grow}
+use Rattle.scale.specs.declared.billionths.Billionth.{Billionth}
+use Rattle.scale.specs.declared.nine_figures.Decimal.{Decimal}
+use Rattle.scale.specs.Billionths.{billionths}
+use Rattle.scale.specs.NineFigures.{nine_figures}
+use Rattle.engine.specs.declared.call.Asked.{Asked}
+use Rattle.engine.specs.declared.call.Call.{Call}
+use Rattle.engine.specs.declared.call.Call.TheVariants.{Aim, Advance, Show, Bounds}
+use Rattle.engine.specs.declared.call.WhichScale.TheVariants.{First, Second}
+use Rattle.engine.specs.declared.stage.Stage.TheVariants.{Aimed}
 use Rattle.engine.specs.Questions.{door_asked}
-use Rattle.engine.specs.Studies.{no_state, set_up, set_up_by, set_up_answer, aim_asked, aim_answer}
-use Rattle.engine.specs.Runs.{after, answers}
-use Rattle.sheet.specs.Sheets.{refused_line, study_text, door_calls, aim_fault, first_fault, door_text, door_texts}
+use Rattle.engine.specs.Stages.{head_of, door_of}
+use Rattle.engine.specs.Studies.{State, no_state, set_up, set_up_by, set_up_answer, aim_asked, aim_answer, called, shown, show_of, show_answer, bounds_answer}
+use Rattle.engine.specs.Runs.{after, answer, answered, calls_of}
+use Rattle.engine.proofs.Carried.{answered-push}
+use Rattle.sheet.specs.Sheets.{refused_line, row_line, cut_lines, progress_line, low_line, fine_line, study_text, door_calls, door_text}
+use Rattle.sheet.specs.Answers.{showings, run_calls, aim_fault, row_lines, answers_text}
 
--- what the first aim after a set-up is asked
-first-aim : (net : Net) (head d : ℕ) → set_up_answer net head ≡ Ok tt → aim_answer net d (set_up net head no_state) ≡ door_asked net head d
-first-aim net head d e = ap (λ a. aim_asked net (set_up_by head no_state a).head d) e
+-- one place more asks for its row
+pub showings-more : (places : List (Asked Billionth Decimal)) (k : ℕ) (y : Asked Billionth Decimal) → k < length places → y.call ≡ Show k → calls_of (take k places) ≡ showings k
+    → calls_of (take (k + 1) (set places k y)) ≡ showings (k + 1)
+unfolding showings
+showings-more places k y l e h =
+    ap calls_of (take_more_set places k y l) ∙ map-append (λ (a : Asked Billionth Decimal). a.call) (take k places) (y ∷ []) ∙ ap₂ (λ (cs : List Call) (c : Call). cs ++ (c ∷ [])) h e
+    ∙ ap showings (sym (add-one k))
 
-chosen : (d : ℕ) (text : List ℕ) (a b : Answer StudyFault) → a ≡ Ok tt → aim_fault {Num = ℕ} (answered.Aim b) ≡ None
-    → text ≡ elim a [ Err fault ↦ refused_line d fault | Ok u ↦ elim b [ Err fault ↦ refused_line d fault | Ok v ↦ text ] ]
-chosen d text (Ok u) (Ok v) e h = refl
-chosen d text (Ok u) (Err f) e h = let z : ◌≡◌ {A = ℕ} 0 1 = cc in absurd (omega arith)
-chosen d text (Err f) b e h = let z : ◌≡◌ {A = ℕ} 0 1 = cc in absurd (omega arith)
+module _ (net : Net) (ratings : List Rating) (s : State) where
+  showings-change-nothing : (n : ℕ) → fold (called net) s (showings n) ≡ s
+  unfolding showings
+  showings-change-nothing zero = refl
+  showings-change-nothing (suc n) = fold_push (called net) s (showings n) (Show n) ∙ ap (λ t. called net t (Show n)) (showings-change-nothing n)
 
-same-fault : (Num : Type 0) (b : Answer StudyFault) → aim_fault {Num = Num} (answered.Aim b) ≡ aim_fault {Num = ℕ} (answered.Aim b)
-same-fault Num (Ok u) = refl
-same-fault Num (Err f) = refl
+  rows-shown : (places n : ℕ) → row_lines (answered net ratings billionths nine_figures places s (showings n)) ≡ cut_lines net s n
+  unfolding showings cut_lines
+  rows-shown places zero = refl
+  rows-shown places (suc n) =
+      ap row_lines (answered-push net ratings billionths nine_figures places (showings n) (Show n) s)
+      ∙ flat_map-append _ (answered net ratings billionths nine_figures places s (showings n)) _
+      ∙ ap₂ (λ (l m : List ℕ). l ++ m) (rows-shown places n) (ap (λ t. row_line (result_ok (show_answer net n t)) ++ []) (showings-change-nothing n) ∙ append-nil _)
 
-pub accepted-text : {Num : Type 0} (net : Net) (ratings : List Rating) (scale : Arithmetic Num) (head d : ℕ) → set_up_answer net head ≡ Ok tt
-    → None ≡ first_fault (answers net ratings scale (set_up net head no_state) (door_calls d))
-    → study_text net ratings d (after net head (door_calls d)) ≡ door_text net ratings head d
-accepted-text {Num} net ratings scale head d e h =
-    chosen d (study_text net ratings d (after net head (door_calls d))) (set_up_answer net head) (door_asked net head d) e
-    (sym (same-fault Num (door_asked net head d)) ∙ ap (λ a. aim_fault {Num = Num} (answered.Aim a)) (sym (first-aim net head d e)) ∙ sym h)
+  -- past the last row there is nothing to show
+  nothing-shown : (d : Option ℕ) (k : ℕ) → length s.search.rows ≤ k → row_line (result_ok (show_of net k s.search.rows d)) ≡ []
+  nothing-shown None k l = refl
+  nothing-shown (Some door) k l = ap (λ r. row_line (result_ok (shown net r))) (slice_get_past s.search.rows k l)
 
--- one door more
-pub door-sheet-more : (net : Net) (ratings : List Rating) (head : ℕ) (text next all : List ℕ) (d : ℕ) (ds rest : List ℕ) → text ++ door_texts net ratings head ds ≡ all → ds ≡ d ∷ rest
-    → next ≡ text ++ door_text net ratings head d → next ++ door_texts net ratings head rest ≡ all
-door-sheet-more net ratings head text next all d ds rest h e w =
-    ap (λ t. t ++ door_texts net ratings head rest) w ∙ append_assoc text (door_text net ratings head d) (door_texts net ratings head rest)
-    ∙ ap (λ es. text ++ door_texts net ratings head es) (sym e) ∙ h
+  cut_lines-past : (n j : ℕ) → length s.search.rows ≤ n → cut_lines net s (n + j) ≡ cut_lines net s n
+  unfolding cut_lines
+  cut_lines-past n zero l = ap (cut_lines net s) (let z : n + 0 ≡ n = omega arith in z)
+  cut_lines-past n (suc j) l =
+      ap (cut_lines net s) (let z : n + suc j ≡ suc (n + j) = omega arith in z)
+      ∙ ap₂ (λ (a b : List ℕ). a ++ b) (cut_lines-past n j l) (nothing-shown (door_of s.stage) (n + j) (omega arith)) ∙ append-nil _
+
+  all-rows : length s.search.rows ≤ 512 → cut_lines net s 512 ≡ cut_lines net s (length s.search.rows)
+  all-rows l =
+      ap (cut_lines net s) (let z : 512 ≡ length s.search.rows + (512 - length s.search.rows) = omega arith in z)
+      ∙ cut_lines-past (length s.search.rows) (512 - length s.search.rows) (omega arith)
+
+module _ (net : Net) (ratings : List Rating) (head d : ℕ) where
+  text-from : (aim : Asked Billionth Decimal) (u : Search) → u.tries ≡ 0 → length u.rows ≤ 512
+      → answers_text d (aim ∷ answered net ratings billionths nine_figures 0 (record { stage = Aimed head d; search = u }) (Advance 10000 ∷ Advance 10000 ∷ Bounds First ∷ Bounds Second ∷ showings 512))
+      ≡ study_text net ratings d (fold (called net) (record { stage = Aimed head d; search = u }) (Advance 10000 ∷ Advance 10000 ∷ []))
+  text-from aim u none few =
+      let v = run net d 10000 u in
+      let w = run net d 10000 v in
+      let s : State = record { stage = Aimed head d; search = w } in
+      let sum : (v.tries - u.tries) + (w.tries - v.tries) ≡ w.tries = omega (arith, tries-grow net d 10000 u, tries-grow net d 10000 v) in
+      ap₂ (λ (t : ℕ) (cuts : List ℕ). progress_line d t (length w.rows) (status net d w.rows) ++ (cuts ++ (low_line (result_ok (bounds_answer net ratings billionths s)) ++ fine_line (result_ok (bounds_answer net ratings nine_figures s))))) sum (rows-shown net ratings s 0 512 ∙ all-rows net ratings s (run-room net d 10000 v (run-room net d 10000 u few)))
+
+  aimed-there : set_up_answer net head ≡ Ok tt → door_asked net head d ≡ Ok tt → called net (set_up net head no_state) (Aim d) ≡ record { stage = Aimed head d; search = aimed net head d }
+  aimed-there e f = rw (e, f) refl
+
+  study-text : set_up_answer net head ≡ Ok tt → door_asked net head d ≡ Ok tt
+      → answers_text d (answered net ratings billionths nine_figures 0 (set_up net head no_state) (run_calls d)) ≡ study_text net ratings d (after net head (door_calls d))
+  study-text e f =
+      let there = aimed-there e f in
+      let aim : Asked Billionth Decimal = record { call = Aim d; answer = Some (answer net ratings billionths nine_figures 0 (set_up net head no_state) (Aim d)) } in
+      ap (λ t. answers_text d (aim ∷ answered net ratings billionths nine_figures 0 t (Advance 10000 ∷ Advance 10000 ∷ Bounds First ∷ Bounds Second ∷ showings 512))) there
+      ∙ text-from aim (aimed net head d) refl (omega arith)
+      ∙ ap (λ t. study_text net ratings d (fold (called net) t (Advance 10000 ∷ Advance 10000 ∷ []))) (sym there)
+
+  -- what the aim of the run is asked
+  first-aim : set_up_answer net head ≡ Ok tt → aim_answer net d (set_up net head no_state) ≡ door_asked net head d
+  first-aim e = ap (λ a. aim_asked net (head_of (set_up_by head no_state a).stage) d) e
+
+  by-neither : (text : List ℕ) (a b : Answer StudyFault) → a ≡ Ok tt → b ≡ Ok tt
+      → text ≡ elim a [ Err fault ↦ refused_line d fault | Ok u ↦ elim b [ Err fault ↦ refused_line d fault | Ok v ↦ text ] ]
+  by-neither text (Ok u) (Ok v) e f = refl
+  by-neither text (Ok u) (Err other) e f = let y : ◌≡◌ {A = ℕ} 0 1 = cc in absurd (omega arith)
+  by-neither text (Err other) b e f = let y : ◌≡◌ {A = ℕ} 0 1 = cc in absurd (omega arith)
+
+  aim-told : (places : List (Asked Billionth Decimal)) (z : Asked Billionth Decimal) → set_up_answer net head ≡ Ok tt
+      → places ≡ answered net ratings billionths nine_figures 0 (set_up net head no_state) (run_calls d) → aim_fault (get_or places 0 z).answer ≡ result_err (door_asked net head d)
+  aim-told places z e p = ap (λ (l : List (Asked Billionth Decimal)). aim_fault (get_or l 0 z).answer) p ∙ ap result_err (first-aim e)
+
+  pub studied-door : (calls : List Call) (places : List (Asked Billionth Decimal)) (z : Asked Billionth Decimal) → calls ≡ run_calls d → set_up_answer net head ≡ Ok tt
+      → places ≡ answered net ratings billionths nine_figures 0 (set_up net head no_state) calls → None ≡ aim_fault (get_or places 0 z).answer
+      → answers_text d places ≡ door_text net ratings head d
+  studied-door calls places z r e q h = go (door_asked net head d) refl (h ∙ aim-told places z e p)
+    where
+      p : places ≡ answered net ratings billionths nine_figures 0 (set_up net head no_state) (run_calls d)
+      p = q ∙ ap (answered net ratings billionths nine_figures 0 (set_up net head no_state)) r
+
+      go : (q : Answer StudyFault) → door_asked net head d ≡ q → None ≡ result_err q → answers_text d places ≡ door_text net ratings head d
+      go (Ok u) f h = ap (answers_text d) p ∙ study-text e f ∙ by-neither (study_text net ratings d (after net head (door_calls d))) (set_up_answer net head) (door_asked net head d) e f
+      go (Err other) f h = let y : ◌≡◌ {A = ℕ} 0 1 = cc in absurd (omega arith)

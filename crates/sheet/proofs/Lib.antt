@@ -1,6 +1,6 @@
-pub mod Lines
-pub mod CutTexts
+pub mod Branches
 pub mod Rows
 pub mod Doors
 pub mod Ended
 pub mod Accepted
+pub mod Answers

@@ -1,13 +1,11 @@
 -- The text that describes a deck: its refusal, or its network and its doors.
-use Rattle.std.specs.Prelude.{◌≡◌, ℕ, zero, suc, List, [], ◌∷◌, ◌++◌, map, length, Some, None, Ok, Err, codes, decimal, Option, Result}
-use Rattle.std.specs.List.{slice_get}
+use Rattle.std.specs.Prelude.{ℕ, zero, suc, List, [], ◌∷◌, ◌++◌, map, length, Some, None, Ok, Err, codes, decimal, Option, Result}
+use Rattle.std.specs.List.{slice_get, flat_map}
 use Rattle.refusals.specs.declared.deck_fault.DeckRefusal.{DeckRefusal}
 use Rattle.refusals.specs.Refusals.{refusal_text}
-use Rattle.deck.specs.declared.reader.Deck.{Deck}
-use Rattle.deck.specs.Decks.{Entry, read_bytes, deck_read, table_after, nodes_in, head_in, branches_in}
+use Rattle.deck.specs.Decks.{Entry, read_bytes, nodes_in, head_in, branches_in}
 use Rattle.deck.specs.Doorways.{doors_of}
 use Rattle.network.specs.declared.branch.Branch.{Branch}
-use Rattle.network.specs.declared.branch.TableRow.{TableRow}
 use Rattle.network.specs.declared.rating.Rating.{Rating}
 use Rattle.network.specs.Meaning.{Net, branch_text, list_net, rating_of}
 use Rattle.network.specs.Ratings.{rating_text}
@@ -39,8 +37,7 @@ abbrev pub door_line : ℕ → List ℕ
 door_line d = codes "DOOR " ++ (decimal d ++ (10 ∷ []))
 
 abbrev pub door_lines : List ℕ → List ℕ
-door_lines [] = []
-door_lines (d ∷ ds) = door_line d ++ door_lines ds
+door_lines ds = flat_map door_line ds
 
 -- DECK REFUSED 3 LAYER N PLACE 5 LINE 7, with the refusal's own figures
 abbrev pub refusal_line : DeckRefusal → List ℕ
@@ -53,9 +50,3 @@ described (Ok es) = network_text (list_net (nodes_in es) (branches_in es)) (map 
 -- what is printed of a deck
 abbrev pub description : List ℕ → List ℕ
 description bytes = described (read_bytes 64 bytes)
-
--- the reader's answer on these bytes, and the table as it left it
-pub record Answered (bytes : List ℕ) (answer : Result Deck DeckRefusal) (table : List TableRow) : Type 0 where
-  pub before : List TableRow
-  pub said : answer ≡ deck_read (read_bytes 64 bytes)
-  pub filled : table ≡ table_after (read_bytes 64 bytes) before

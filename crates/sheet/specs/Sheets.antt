@@ -1,5 +1,7 @@
 -- The text of a study's sheet: for each door its cuts and bounds, or its refusal.
 use Rattle.std.specs.Prelude.{◌≡◌, ℕ, zero, suc, List, [], ◌∷◌, ◌++◌, map, length, Some, None, Ok, Err, codes, decimal, Option, Result, ◌≢◌}
+use Rattle.std.specs.List.{flat_map}
+use Rattle.std.specs.Result.{result_ok}
 use Rattle.refusals.specs.declared.deck_fault.DeckRefusal.{DeckRefusal}
 use Rattle.refusals.specs.declared.study_fault.StudyFault.{StudyFault}
 use Rattle.refusals.specs.Refusals.{study_refusal}
@@ -15,8 +17,6 @@ use Rattle.scale.specs.NineFigures.{nine_figures}
 use Rattle.chance.specs.declared.bounds.Bounds.{Bounds}
 use Rattle.cut_line.specs.Cuts.{cut_line}
 use Rattle.engine.specs.declared.progress.Progress.{Progress}
-use Rattle.engine.specs.declared.call.Answer.{Answer as Answered}
-use Rattle.engine.specs.declared.call.Answer.TheVariants as answers
 use Rattle.engine.specs.declared.call.Call.{Call}
 use Rattle.engine.specs.declared.call.Call.TheVariants.{Aim, Advance}
 use Rattle.engine.specs.Questions.{door_asked}
@@ -36,39 +36,45 @@ status_word Full = codes "FULL"
 status_word More = codes "MORE"
 
 -- DOOR d CUTS c TRIES t FINISHED, or another status
+abbrev pub progress_line : ℕ → ℕ → ℕ → Status → List ℕ
+progress_line d tries rows status =
+    codes "DOOR " ++ (decimal d ++ (codes " CUTS " ++ (decimal rows ++ (codes " TRIES " ++ (decimal tries ++ (codes " " ++ (status_word status ++ (10 ∷ []))))))))
+
 abbrev pub standing_line : ℕ → Result Progress StudyFault → List ℕ
-standing_line d (Ok p) =
-    codes "DOOR " ++ (decimal d ++ (codes " CUTS " ++ (decimal p.rows ++ (codes " TRIES " ++ (decimal p.tries ++ (codes " " ++ (status_word p.status ++ (10 ∷ []))))))))
+standing_line d (Ok p) = progress_line d p.tries p.rows p.status
 standing_line d (Err fault) = []
 
--- the CUT line of a row that is shown
-abbrev pub shown_line : Result (ℕ × ℕ) StudyFault → List ℕ
-shown_line (Ok row) = cut_line row.0 row.1
-shown_line (Err fault) = []
+-- the CUT line of a row, where there is one
+abbrev pub row_line : Option (ℕ × ℕ) → List ℕ
+row_line (Some row) = cut_line row.0 row.1
+row_line None = []
 
 -- the CUT lines of the first n rows
 unfoldable pub cut_lines : Net → State → ℕ → List ℕ
 cut_lines net s zero = []
-cut_lines net s (suc n) = cut_lines net s n ++ shown_line (show_answer net n s)
+cut_lines net s (suc n) = cut_lines net s n ++ row_line (result_ok (show_answer net n s))
+
+-- the bounds in one scale, each after its word, where there are any
+abbrev pub bounds_line : {T : Type 0} → List ℕ → List ℕ → (T → List ℕ) → Option (Bounds T) → List ℕ
+bounds_line low_word high_word shown (Some b) = low_word ++ (shown b.low ++ (high_word ++ (shown b.high ++ (10 ∷ []))))
+bounds_line low_word high_word shown None = []
 
 -- LOW w HIGH w
-abbrev pub low_line : Result (Bounds Billionth) StudyFault → List ℕ
-low_line (Ok b) = codes "LOW " ++ (decimal b.low.units ++ (codes " HIGH " ++ (decimal b.high.units ++ (10 ∷ []))))
-low_line (Err fault) = []
+abbrev pub low_line : Option (Bounds Billionth) → List ℕ
+low_line bounds = bounds_line (codes "LOW ") (codes " HIGH ") (λ w. decimal w.units) bounds
 
 -- figures and exponent
 abbrev pub figures : Decimal → List ℕ
 figures d = decimal d.figures ++ (codes " " ++ decimal d.exponent)
 
 -- FINE m e m e
-abbrev pub fine_line : Result (Bounds Decimal) StudyFault → List ℕ
-fine_line (Ok b) = codes "FINE " ++ (figures b.low ++ (codes " " ++ (figures b.high ++ (10 ∷ []))))
-fine_line (Err fault) = []
+abbrev pub fine_line : Option (Bounds Decimal) → List ℕ
+fine_line bounds = bounds_line (codes "FINE ") (codes " ") figures bounds
 
 -- how a search stands, its cuts, and its bounds in both scales
 abbrev pub study_text : Net → List Rating → ℕ → State → List ℕ
 study_text net ratings d s =
-    standing_line d (standing_answer net s) ++ (cut_lines net s (length s.search.rows) ++ (low_line (bounds_answer net ratings billionths s) ++ fine_line (bounds_answer net ratings nine_figures s)))
+    standing_line d (standing_answer net s) ++ (cut_lines net s (length s.search.rows) ++ (low_line (result_ok (bounds_answer net ratings billionths s)) ++ fine_line (result_ok (bounds_answer net ratings nine_figures s))))
 
 -- what is done for a door: an aim, and two advances that suffice for any search
 abbrev pub door_calls : ℕ → List Call
@@ -82,19 +88,6 @@ Ended net head d =
 abbrev pub TwoAdvancesEnd : Type 0
 TwoAdvancesEnd = (net : Net) → Legal net → (head d : ℕ) → Ended net head d
 
--- why an aim was refused, if it was
-abbrev pub aim_fault : {Num : Type 0} → Answered Num → Option StudyFault
-aim_fault (answers.Aim (Ok u)) = None
-aim_fault (answers.Aim (Err fault)) = Some fault
-aim_fault (answers.Advance a) = None
-aim_fault (answers.Show a) = None
-aim_fault (answers.Bounds a) = None
-
--- the same of the first of some answers
-abbrev pub first_fault : {Num : Type 0} → List (Answered Num) → Option StudyFault
-first_fault [] = None
-first_fault (a ∷ rest) = aim_fault a
-
 -- the sheet of one door, or the refusal of its head or of the door itself
 abbrev pub door_text : Net → List Rating → ℕ → ℕ → List ℕ
 door_text net ratings head d =
@@ -107,8 +100,7 @@ door_text net ratings head d =
     ]
 
 abbrev pub door_texts : Net → List Rating → ℕ → List ℕ → List ℕ
-door_texts net ratings head [] = []
-door_texts net ratings head (d ∷ ds) = door_text net ratings head d ++ door_texts net ratings head ds
+door_texts net ratings head ds = flat_map (door_text net ratings head) ds
 
 abbrev pub studied : Result (List Entry) DeckRefusal → List ℕ
 studied (Err refusal) = refusal_line refusal

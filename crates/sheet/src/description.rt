@@ -1,88 +1,52 @@
 // A deck in words: why it is refused, or the network and the doors that it tells.
-ghost use Rattle.std.specs.Prelude.{◌≡◌, ◌++◌, map, IfOk, Ok, string_bytes, OnOk};
-ghost use Rattle.network.specs.Meaning.{list_net, rating_of};
-ghost use Rattle.network.specs.Questions.{list_asked};
+ghost use Rattle.std.specs.Prelude.{◌≡◌, IfOk, Some, string_bytes};
+ghost use Rattle.std.specs.Fmt.{WritesOnOk};
 ghost use Rattle.deck.specs.Cards.{cards};
 ghost use Rattle.deck.specs.Doorways.{doors_in};
-ghost use Rattle.sheet.specs.Descriptions.{refusal_line, door_line, door_lines, network_text, description, Answered};
+ghost use Rattle.sheet.specs.Descriptions.{door_lines, description};
 
-use crate::network_text::write_network;
+use crate::network_text::NetworkText;
+use crate::reading::read_network;
 use deck::doors::Doors;
-use deck::reader::{Deck, read_deck};
 use network::branch::TableRow;
-use network::list::List;
-use refusals::deck_fault::DeckRefusal;
-use std::alloc::Global;
+use std::alloc::{AllocError, Global};
 use std::fmt;
-use std::fmt::Write;
 
-fn write_door(text: &mut String, door: u32) -> fmt::Result
-    ensures { OnOk result (string_bytes text.new ≡ string_bytes text.old ++ door_line door) }
-{
-    write!(text, "DOOR {door}\n")?;
-    Ok(())
+// What the deck of these bytes says.
+#[derive(Clone, Copy)]
+pub struct Description<'a> {
+    pub bytes: &'a [u8],
 }
 
-// A line for each door of a deck.
-fn write_doors(text: &mut String, bytes: &[u8]) -> fmt::Result
-    ensures { OnOk result (string_bytes text.new ≡ string_bytes text.old ++ door_lines (doors_in (cards bytes.now))) }
-{
-    let mut doors = Doors::new(bytes);
-    while let Some(door) = doors.next_door() {
-        write_door(text, door)?;
-    }
-    Ok(())
-}
+impl<'a> fmt::Display for Description<'a> {
+    ghost output = { λ d. Some (description d.bytes.now) };
 
-pub(crate) fn write_refusal(text: &mut String, refusal: DeckRefusal) -> fmt::Result
-    ensures { OnOk result (string_bytes text.new ≡ string_bytes text.old ++ refusal_line refusal) }
-{
-    write!(text, "{refusal}\n")?;
-    Ok(())
-}
-
-// An accepted deck. A list takes its rows, since the deck was asked the same questions.
-fn write_accepted(text: &mut String, deck: Deck, rows: &[TableRow], bytes: &[u8]) -> fmt::Result
-    requires { list_asked deck.nodes rows.now ≡ Ok tt }
-    ensures { IfOk
-        result
-        (λ _. string_bytes text.new ≡ string_bytes text.old ++ (network_text (list_net deck.nodes rows.now) (map rating_of rows.now) deck.head ++ door_lines (doors_in (cards bytes.now)))) }
-{
-    let mut list = List::new();
-    match list.fill(deck.nodes, rows) {
-        Ok(()) => {}
-        Err(_) => unreachable(),
-    }
-    write_network(text, &list, deck.head)?;
-    write_doors(text, bytes)
-}
-
-// What the reader answered of the deck, with the table that it filled.
-fn write_answer(
-    text: &mut String,
-    answer: Result<Deck, DeckRefusal>,
-    table: &[TableRow],
-    bytes: &[u8],
-) -> fmt::Result
-    requires { Answered bytes.now answer table.now }
-    ensures { OnOk result (string_bytes text.new ≡ string_bytes text.old ++ description bytes.now) }
-{
-    match answer {
-        Ok(deck) => {
-            let (rows, _) = table.split_at(deck.branches as usize);
-            write_accepted(text, deck, rows, bytes)
+    fn fmt<W: fmt::Write>(&self, f: &mut fmt::Formatter<W>) -> fmt::Result {
+        let mut table = [TableRow::BLANK; 64];
+        match read_network(self.bytes, &mut table) {
+            Ok((list, head)) => {
+                let network = &list;
+                write!(f, "{}", NetworkText { network, head })?;
+                write_doors(f, self.bytes)
+            }
+            Err(refusal) => writeln!(f, "{refusal}"),
         }
-        Err(refusal) => write_refusal(text, refusal),
     }
 }
 
-// What a deck says, as text; want of memory is the only error.
-pub fn describe(heap: Global, bytes: &[u8]) -> Result<String, fmt::Error>
+// A line for each door.
+fn write_doors<W: fmt::Write>(f: &mut fmt::Formatter<W>, bytes: &[u8]) -> fmt::Result
+    ensures { WritesOnOk W.write_str_gives f.old result (door_lines (doors_in (cards bytes.now))) f.new }
+{
+    for door in Doors::new(bytes) {
+        writeln!(f, "DOOR {door}")?;
+    }
+    Ok(())
+}
+
+// What a deck says, as text.
+pub fn describe(heap: Global, bytes: &[u8]) -> Result<String, AllocError>
     ensures { IfOk result (λ text. string_bytes text ≡ description bytes.now) }
 {
-    let mut table = [TableRow::BLANK; 64];
-    let answer = read_deck(bytes, &mut table);
-    let mut text = String::new(heap);
-    write_answer(&mut text, answer, &table, bytes)?;
-    Ok(text)
+    Description { bytes }.to_string(heap)
 }

@@ -1,8 +1,13 @@
 // What the programs print, as text whose bytes the contracts give.
 #![tactic(auto)]
 
-pub mod cut_text;
+mod answers_text;
 pub mod description;
+mod door_calls;
 pub mod door_text;
+mod lines;
 pub mod network_text;
+mod reading;
+mod replies;
 pub mod study_sheet;
+pub mod study_text;

@@ -1,52 +1,63 @@
 // A network in words: a headline, and a line for each branch.
-ghost use Rattle.std.specs.Prelude.{◌≡◌, ◌++◌, length, IfOk, string_bytes, OnOk};
+ghost use Rattle.std.specs.Prelude.{◌≡◌, length, Some};
+ghost use Rattle.std.specs.Fmt.{WritesOnOk};
 ghost use Rattle.std.specs.List.{slice_get};
-ghost use Rattle.sheet.specs.Descriptions.{headline, line_at, lines_below, network_text};
+ghost use Rattle.sheet.specs.Descriptions.{line_at, lines_below, network_text};
 
 use network::traits::RatedNetwork;
 use std::fmt;
-use std::fmt::Write;
 
-fn write_headline(text: &mut String, nodes: u32, head: u32, branches: u32) -> fmt::Result
-    ensures { OnOk result (string_bytes text.new ≡ string_bytes text.old ++ headline nodes head branches) }
-{
-    write!(text, "NODES {nodes} HEAD {head} BRANCHES {branches}\n")?;
-    Ok(())
+// A network with its head: its counts, and then each branch with its rating.
+#[derive(Clone, Copy)]
+pub struct NetworkText<'a, N> {
+    pub network: &'a N,
+    pub head: u32,
+}
+
+impl<'a, N: RatedNetwork> fmt::Display for NetworkText<'a, N> {
+    ghost output = { λ t. Some (network_text (N.Network.net t.network.now) (N.RatedNetwork.rated t.network.now).ratings t.head) };
+
+    fn fmt<W: fmt::Write>(&self, f: &mut fmt::Formatter<W>) -> fmt::Result {
+        let nodes = self.network.nodes();
+        let head = self.head;
+        let branches = self.network.branches();
+        writeln!(f, "NODES {nodes} HEAD {head} BRANCHES {branches}")?;
+        write_branches(f, self.network)
+    }
 }
 
 // The line of branch k, where there is one.
-fn write_branch_at<N: RatedNetwork>(text: &mut String, network: &N, k: u32) -> fmt::Result
-    ensures { IfOk
+fn write_branch<W: fmt::Write, N: RatedNetwork>(
+    f: &mut fmt::Formatter<W>,
+    network: &N,
+    k: u32,
+) -> fmt::Result
+    ensures { WritesOnOk
+        W.write_str_gives
+        f.old
         result
-        (λ _. string_bytes text.new ≡ string_bytes text.old ++ line_at k (slice_get (N.Network.net network.now).branches k) (slice_get (N.RatedNetwork.rated network.now).ratings k)) }
+        (line_at k (slice_get (N.Network.net network.now).branches k) (slice_get (N.RatedNetwork.rated network.now).ratings k))
+        f.new }
 {
-    let Some(branch) = network.branch(k) else {
-        return Ok(());
-    };
-    let Some(rating) = network.rating(k) else {
-        return Ok(());
-    };
-    write!(text, "BRANCH {k} {branch} {rating}\n")?;
-    Ok(())
+    match (network.branch(k), network.rating(k)) {
+        (Some(branch), Some(rating)) => writeln!(f, "BRANCH {k} {branch} {rating}"),
+        _ => Ok(()),
+    }
 }
 
-fn write_branches<N: RatedNetwork>(text: &mut String, network: &N) -> fmt::Result
-    ensures { IfOk
+fn write_branches<W: fmt::Write, N: RatedNetwork>(
+    f: &mut fmt::Formatter<W>,
+    network: &N,
+) -> fmt::Result
+    ensures { WritesOnOk
+        W.write_str_gives
+        f.old
         result
-        (λ _. string_bytes text.new ≡ string_bytes text.old ++ lines_below (N.Network.net network.now).branches (N.RatedNetwork.rated network.now).ratings (length (N.Network.net network.now).branches)) }
+        (lines_below (N.Network.net network.now).branches (N.RatedNetwork.rated network.now).ratings (length (N.Network.net network.now).branches))
+        f.new }
 {
     for k in 0..network.branches() {
-        write_branch_at(text, network, k)?;
+        write_branch(f, network, k)?;
     }
     Ok(())
-}
-
-// Writes a network with its head: its counts, and then each branch with its rating.
-pub fn write_network<N: RatedNetwork>(text: &mut String, network: &N, head: u32) -> fmt::Result
-    ensures { IfOk
-        result
-        (λ _. string_bytes text.new ≡ string_bytes text.old ++ network_text (N.Network.net network.now) (N.RatedNetwork.rated network.now).ratings head) }
-{
-    write_headline(text, network.nodes(), head, network.branches())?;
-    write_branches(text, network)
 }

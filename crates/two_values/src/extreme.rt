@@ -1,7 +1,7 @@
 // The two numbers, and the scale.
 pub mod rounded;
 
-#[derive(Clone, Copy, Debug, PartialEq, Eq)]
+#[derive(Clone, Copy, Debug, PartialEq, Eq, PartialOrd, Ord)]
 pub enum Extreme {
     Never,
     Surely,

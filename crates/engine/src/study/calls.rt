@@ -1,10 +1,17 @@
-ghost use Rattle.std.specs.Prelude.{◌≡◌, length};
-ghost use Rattle.engine.specs.declared.call.Call.TheVariants.{Aim, Advance};
+ghost use Rattle.std.specs.Prelude.{◌≡◌, ◌≤◌, [], length, IfOk, OnOk};
+ghost use Rattle.std.specs.Option.{ok_or};
+ghost use Rattle.refusals.specs.declared.study_fault.StudyFault.TheVariants.{NoAim};
+ghost use Rattle.engine.specs.Stages.{door_of};
+ghost use Rattle.engine.specs.declared.call.Call.TheVariants.{Aim, Advance, Show, Line, Bounds as AskBounds};
+ghost use Rattle.engine.specs.declared.call.WhichScale.{WhichScale};
+ghost use Rattle.engine.specs.Runs.{StandsAfter};
+ghost use Rattle.engine.specs.SoundRuns.{LeadsOn, BoundsEncloseTheChance};
 ghost use Rattle.engine.specs.Studies.{no_state, state_of, Kept, Forgets, set_up, set_up_answer, called, aim_answer, progress, advanced_by, advance_answer, show_answer, bounds_answer, line_answer, line_written, standing_answer};
 
 use crate::listing::list_sets;
 use crate::progress::Progress;
 use crate::questions::{check_budget, check_door};
+use crate::stage::Stage;
 use crate::study::Study;
 use chance::bounds::{Bounds, bounds_of};
 use cut_line::write_cut;
@@ -24,8 +31,7 @@ impl Study {
         ensures { state_of result ≡ no_state }
     {
         Study {
-            head: None,
-            door: None,
+            stage: Stage::Fresh,
             table: Table::empty(),
             tries: 0,
         }
@@ -37,10 +43,10 @@ impl Study {
         ensures state { state_of self.new ≡ set_up (N.net network.now) head (state_of self.old) }
         ensures kept { Kept result self.old self.new }
         ensures forgets { Forgets (N.net network.now) head result (state_of self.new) }
+        ensures run { OnOk result (StandsAfter (N.net network.now) head [] (state_of self.new)) }
     {
         check_head(network.nodes(), head)?;
-        self.head = Some(head);
-        self.door = None;
+        self.stage = Stage::SetUp { head };
         self.table.clear();
         self.tries = 0;
         Ok(())
@@ -51,15 +57,21 @@ impl Study {
         ensures answer { result ≡ aim_answer (N.net network.now) door (state_of self.old) }
         ensures state { state_of self.new ≡ called (N.net network.now) (state_of self.old) (Aim door) }
         ensures kept { Kept result self.old self.new }
+        ensures run { LeadsOn (N.net network.now) (Aim door) (state_of self.old) (state_of self.new) }
     {
-        let Some(head) = self.head else {
-            return Err(StudyFault::Door);
-        };
+        let head = self.stage.head().ok_or(StudyFault::Door)?;
         check_door(network, head, door)?;
-        self.door = Some(door);
+        self.stage = Stage::Aimed { head, door };
         self.table.begin(first_row(network, head, door));
         self.tries = 0;
         Ok(())
+    }
+
+    // The door of the last accepted aim.
+    fn door(&self) -> Result<u32, StudyFault>
+        ensures { result ≡ ok_or (door_of self.now.stage) NoAim }
+    {
+        self.stage.door().ok_or(StudyFault::NoAim)
     }
 
     // Makes tries for the door until the budget is spent or none can be made.
@@ -80,11 +92,11 @@ impl Study {
     pub fn advance<N: Network>(&mut self, network: &N, budget: u32) -> Result<Progress, StudyFault>
         ensures answer { result ≡ advance_answer (N.net network.now) budget (state_of self.old) }
         ensures state { state_of self.new ≡ called (N.net network.now) (state_of self.old) (Advance budget) }
+        ensures within { IfOk result (λ made. made.tries ≤ budget) }
         ensures kept { Kept result self.old self.new }
+        ensures run { LeadsOn (N.net network.now) (Advance budget) (state_of self.old) (state_of self.new) }
     {
-        let Some(door) = self.door else {
-            return Err(StudyFault::NoAim);
-        };
+        let door = self.door()?;
         check_budget(budget)?;
         Ok(self.try_up_to(network, door, budget))
     }
@@ -100,9 +112,7 @@ impl Study {
     pub fn standing<N: Network>(&self, network: &N) -> Result<Progress, StudyFault>
         ensures { result ≡ standing_answer (N.net network.now) (state_of self.now) }
     {
-        let Some(door) = self.door else {
-            return Err(StudyFault::NoAim);
-        };
+        let door = self.door()?;
         Ok(Progress {
             tries: self.tries,
             rows: self.table.len(),
@@ -113,14 +123,14 @@ impl Study {
     // The branch set and the node vector of row k.
     pub fn show<N: Network>(&self, network: &N, k: usize) -> Result<(u64, u32), StudyFault>
         ensures answer { result ≡ show_answer (N.net network.now) k (state_of self.now) }
+        ensures run { LeadsOn (N.net network.now) (Show k) (state_of self.now) (state_of self.now) }
     {
-        if self.door.is_none() {
-            return Err(StudyFault::NoAim);
-        }
-        match self.table.row(k) {
-            None => Err(StudyFault::NoRow),
-            Some(row) => Ok((branch_set_of(network, row), node_vector_of(network, row))),
-        }
+        self.door()?;
+        let row = self.table.row(k).ok_or(StudyFault::NoRow)?;
+        Ok((
+            branch_set_of(network, &row).into(),
+            node_vector_of(network, &row).into(),
+        ))
     }
 
     // The bounds on the chance that the door is cut off.
@@ -128,11 +138,11 @@ impl Study {
         &self,
         network: &N,
     ) -> Result<Bounds<S::Num>, StudyFault>
-        ensures { result ≡ bounds_answer (N.Network.net network.now) (N.RatedNetwork.rated network.now).ratings S.Scale.arithmetic (state_of self.now) }
+        ensures answer { result ≡ bounds_answer (N.Network.net network.now) (N.RatedNetwork.rated network.now).ratings S.Scale.arithmetic (state_of self.now) }
+        ensures run { (which : WhichScale) → LeadsOn (N.Network.net network.now) (AskBounds which) (state_of self.now) (state_of self.now) }
+        ensures chance { BoundsEncloseTheChance (N.RatedNetwork.rated network.now) S.Scale.arithmetic (state_of self.now) }
     {
-        let Some(door) = self.door else {
-            return Err(StudyFault::NoAim);
-        };
+        let door = self.door()?;
         let mut sets = [0; 512];
         list_sets(network, self.table.rows(), &mut sets);
         let finished = matches!(status_of(&self.table, network, door), Status::Finished);
@@ -149,6 +159,7 @@ impl Study {
         ensures answer { result ≡ line_answer (N.net network.now) k (length buffer.old) (state_of self.now) }
         ensures bytes { buffer.new ≡ line_written (N.net network.now) k buffer.old (state_of self.now) }
         ensures kept { Kept result buffer.old buffer.new }
+        ensures run { LeadsOn (N.net network.now) (Line k) (state_of self.now) (state_of self.now) }
     {
         let (branches, nodes) = self.show(network, k)?;
         write_cut(buffer, branches, nodes)

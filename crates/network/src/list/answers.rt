@@ -1,11 +1,21 @@
 // What a list answers.
+ghost use Rattle.std.specs.Prelude.{◌≡◌};
+ghost use Rattle.std.specs.List.{slice_get};
 ghost use Rattle.network.specs.Meaning.{list_net, list_rated};
 ghost use Rattle.network.specs.Legality.{legal-list, legal-list_rated};
 
-use crate::branch::Branch;
+use crate::branch::{Branch, TableRow};
 use crate::list::List;
 use crate::rating::Rating;
 use crate::traits::{Network, RatedNetwork};
+
+impl<'a> List<'a> {
+    fn row(&self, k: u32) -> Option<TableRow>
+        ensures { result ≡ slice_get self.now.table.now k }
+    {
+        self.table.get(k as usize).copied()
+    }
+}
 
 impl<'a> Network for List<'a> {
     ghost net = { λ s. list_net s.nodes s.table.now };
@@ -21,10 +31,7 @@ impl<'a> Network for List<'a> {
     }
 
     fn branch(&self, k: u32) -> Option<Branch> {
-        match self.table.get(k as usize) {
-            Some(row) => Some(row.branch()),
-            None => None,
-        }
+        self.row(k).map(|row| row.branch())
     }
 }
 
@@ -34,9 +41,6 @@ impl<'a> RatedNetwork for List<'a> {
     ghost legal = { λ s. legal-list_rated s.nodes s.table.now s.few s.short s.sound };
 
     fn rating(&self, k: u32) -> Option<Rating> {
-        match self.table.get(k as usize) {
-            Some(row) => Rating::new(row.mantissa, row.exponent),
-            None => None,
-        }
+        self.row(k).and_then(|row| row.rating())
     }
 }

@@ -1,10 +1,15 @@
 // Making a list from a table.
-ghost use Rattle.std.specs.Prelude.{◌≡◌, ◌≤◌, [], length, MatchResult};
+ghost use Rattle.std.specs.Prelude.{◌≡◌, ◌≤◌, [], length, OnOk, OnErr};
+ghost use Rattle.network.specs.Meaning.{empty_net, list_net, list_rated};
+ghost use Rattle.refusals.specs.Questions.{first_no, refusal_of};
+ghost use Rattle.refusals.specs.Refusals.{network_refusal};
 ghost use Rattle.network.specs.Questions.{rows_asked, list_asked};
+ghost use Rattle.network.specs.Refusing.{list_questions};
 
 use crate::branch::TableRow;
 use crate::list::List;
 use crate::questions::{check_branch_count, check_nodes, check_row};
+use crate::traits::{Network, RatedNetwork};
 use refusals::network_fault::NetworkFault;
 
 fn check_rows(nodes: u32, table: &[TableRow]) -> Result<(), NetworkFault>
@@ -28,7 +33,8 @@ fn check_table(nodes: u32, table: &[TableRow]) -> Result<(), NetworkFault>
 
 impl<'a> List<'a> {
     pub fn new() -> List<'a>
-        ensures { (result.nodes ≡ 0) × (result.table.now ≡ []) }
+        ensures plain { ⟦<List<'a> as Network>⟧.net result ≡ empty_net }
+        ensures rated { ⟦<List<'a> as RatedNetwork>⟧.rated result ≡ record { plain = empty_net; ratings = [] } }
     {
         List {
             nodes: 0,
@@ -36,13 +42,14 @@ impl<'a> List<'a> {
         }
     }
 
-    // Takes the table's branches, or refuses and stays as it was.
+    // Takes the table's branches, or refuses and stays as it was. The refusal is that of the first question answered no.
+    #[tactic(auto, using(crate::proofs::Firsts::list_first))]
     pub fn fill(&mut self, nodes: u32, table: &'a [TableRow]) -> Result<(), NetworkFault>
         ensures answer { result ≡ list_asked nodes table.now }
-        ensures after { MatchResult
-            result
-            (λ _. (self.new.nodes ≡ nodes) × (self.new.table.now ≡ table.now))
-            (λ _. self.new ≡ self.old) }
+        ensures refusal { refusal_of network_refusal result ≡ first_no (list_questions nodes table.now) }
+        ensures plain { OnOk result (⟦<List<'a> as Network>⟧.net self.new ≡ list_net nodes table.now) }
+        ensures rated { OnOk result (⟦<List<'a> as RatedNetwork>⟧.rated self.new ≡ list_rated nodes table.now) }
+        ensures refused { OnErr result (self.new ≡ self.old) }
     {
         check_table(nodes, table)?;
         *self = List { nodes, table };

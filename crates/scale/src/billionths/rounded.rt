@@ -6,7 +6,7 @@ ghost use Rattle.scale.specs.BillionthLaws;
 
 use crate::Scale;
 use crate::billionths::{Billionth, Billionths};
-use crate::powers::ten_to;
+use crate::powers::{shift_down, shift_up};
 use network::rating::Rating;
 use std::fmt;
 
@@ -16,14 +16,14 @@ const ONE: u64 = 1_000_000_000;
 fn units_down(x: Billionth, by: Rating) -> u64
     ensures { result ≡ x.units * by.mantissa / 10 ^ by.exponent }
 {
-    x.units * by.mantissa as u64 / ten_to(by.exponent)
+    shift_down(x.units * by.mantissa as u64, by.exponent)
 }
 
 // The units of a product, rounded up.
 fn units_up(x: Billionth, by: Rating) -> u64
     ensures { result ≡ ceil_div (x.units * by.mantissa) (10 ^ by.exponent) }
 {
-    (x.units * by.mantissa as u64).div_ceil(ten_to(by.exponent))
+    shift_up(x.units * by.mantissa as u64, by.exponent)
 }
 
 // A sum is exact, or held at 1.

@@ -1,5 +1,5 @@
 // The arithmetic of nine figures, and how they are printed.
-ghost use Rattle.std.specs.Prelude.{◌≡◌, ◌+◌, ◌-◌, ◌*◌, ◌^◌, ◌≤◌, ◌++◌, Some, codes, decimal};
+ghost use Rattle.std.specs.Prelude.{◌≡◌, ◌+◌, ◌-◌, ◌*◌, ◌^◌, ◌<◌, ◌≤◌, ◌⊎◌, ◌++◌, Some, codes, decimal};
 ghost use Rattle.scale.specs.Fractions.{◌+ᶠ◌};
 ghost use Rattle.scale.specs.NineFigures.{worth, floor, ceiling, nine_figures};
 ghost use Rattle.scale.specs.NineLaws;
@@ -33,22 +33,40 @@ fn exact_difference(x: Decimal, y: Decimal) -> u64
     (x.figures * ten_to(y.exponent - x.exponent)).saturating_sub(y.figures)
 }
 
-// The sum of a number above 0 and one with no smaller exponent, rounded down.
+// Both numbers, with 0 second, and else the smaller exponent first.
+fn ordered(x: Decimal, y: Decimal) -> (Decimal, Decimal)
+    ensures both { (result.0 ≡ x) × (result.1 ≡ y) ⊎ (result.0 ≡ y) × (result.1 ≡ x) }
+    ensures order { 0 < result.1.figures → (100000000 ≤ result.0.figures) × (result.0.exponent ≤ result.1.exponent) }
+{
+    if x.figures == 0 || y.figures > 0 && y.exponent < x.exponent {
+        (y, x)
+    } else {
+        (x, y)
+    }
+}
+
+// The sum of two numbers in order, rounded down.
 fn add_down(x: Decimal, y: Decimal) -> Decimal
-    requires { (100000000 ≤ x.figures) × (x.exponent ≤ y.exponent) }
+    requires { 0 < y.figures → (100000000 ≤ x.figures) × (x.exponent ≤ y.exponent) }
     ensures { result ≡ floor (worth x +ᶠ worth y) }
 {
+    if y.figures == 0 {
+        return x;
+    }
     if y.exponent - x.exponent > SUM_GAP {
         return x;
     }
     round_down(exact_sum(x, y), y.exponent)
 }
 
-// The sum of two numbers above 0, of which the second has no smaller exponent, rounded up.
+// The sum of two numbers in order, rounded up.
 fn add_up(x: Decimal, y: Decimal) -> Decimal
-    requires { (100000000 ≤ x.figures) × ((100000000 ≤ y.figures) × (x.exponent ≤ y.exponent)) }
+    requires { 0 < y.figures → (100000000 ≤ x.figures) × (x.exponent ≤ y.exponent) }
     ensures { result ≡ ceiling (worth x +ᶠ worth y) }
 {
+    if y.figures == 0 {
+        return x;
+    }
     if y.exponent - x.exponent > SUM_GAP {
         return round_up(x.figures + 1, x.exponent);
     }
@@ -79,29 +97,13 @@ impl Scale for NineFigures {
     }
 
     fn sum_down(x: Decimal, y: Decimal) -> Decimal {
-        if y.figures == 0 {
-            return x;
-        }
-        if x.figures == 0 {
-            return y;
-        }
-        if x.exponent <= y.exponent {
-            return add_down(x, y);
-        }
-        add_down(y, x)
+        let (x, y) = ordered(x, y);
+        add_down(x, y)
     }
 
     fn sum_up(x: Decimal, y: Decimal) -> Decimal {
-        if y.figures == 0 {
-            return x;
-        }
-        if x.figures == 0 {
-            return y;
-        }
-        if x.exponent <= y.exponent {
-            return add_up(x, y);
-        }
-        add_up(y, x)
+        let (x, y) = ordered(x, y);
+        add_up(x, y)
     }
 
     fn less_down(x: Decimal, y: Decimal) -> Decimal {

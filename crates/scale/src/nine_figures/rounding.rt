@@ -1,9 +1,11 @@
 // Bringing figures / 10^exponent to a number of nine figures.
-ghost use Rattle.std.specs.Prelude.{◌≡◌, ◌*◌, ◌^◌, ◌<◌, ◌≤◌};
-ghost use Rattle.scale.specs.Fractions.{decimal};
+ghost use Rattle.std.specs.Prelude.{◌≡◌, ◌+◌, ◌*◌, ◌^◌, ◌<◌, ◌≤◌, ◌⊎◌};
+ghost use Rattle.scale.specs.Fractions.{decimal, ◌≤ᶠ◌, ◌=ᶠ◌};
+ghost use Rattle.scale.specs.FractionOrder.{◌<ᶠ◌};
 ghost use Rattle.scale.specs.NineFigures.{nought, unit, floor, ceiling};
 
 use crate::nine_figures::Decimal;
+use crate::powers::{shift_down, shift_up, ten_to};
 
 // The least and the first past the greatest number of nine figures.
 const NINE: u64 = 100_000_000;
@@ -33,29 +35,45 @@ pub(crate) fn unit() -> Decimal
     }
 }
 
-// figures / 10^exponent with nine figures or more.
-fn lengthened(figures: u64, exponent: u32) -> (u64, u32)
-    requires { (0 < figures) × (exponent ≤ 100) }
-    ensures long { 100000000 ≤ result.0 }
-    ensures same { result.0 * 10 ^ exponent ≡ figures * 10 ^ result.1 }
-{
-    let mut m = figures;
-    let mut e = exponent;
-    while m < NINE {
-        m *= 10;
-        e += 1;
-    }
-    (m, e)
+// The first nine figures of a number, rounded down, and rounded up to the next where anything is cut off.
+#[derive(Clone, Copy)]
+struct Cut {
+    down: u64,
+    up: u64,
+    exponent: u32,
 }
 
-// The largest number that is not above m / 10^e, where m has nine figures, or the whole is 1 or more.
+// Of figures / 10^exponent, where the first figure is that of 10^first, and the whole is below 1.
+fn first_nine(figures: u64, first: u32, exponent: u32) -> Cut
+    requires at_first { (10 ^ first ≤ figures) × (figures < 10 * 10 ^ first) }
+    requires below_one { (first < 20) × (first < exponent) × (exponent ≤ 100) }
+    ensures nine { (100000000 ≤ result.down) × (result.down < 1000000000) × (8 < result.exponent) }
+    ensures not_above { decimal result.down result.exponent ≤ᶠ decimal figures exponent }
+    ensures last { decimal figures exponent <ᶠ decimal (result.down + 1) result.exponent }
+    ensures up { (result.up ≡ result.down) × (decimal figures exponent =ᶠ decimal result.down result.exponent) ⊎ (result.up ≡ result.down + 1) × (decimal result.down result.exponent <ᶠ decimal figures exponent) }
+{
+    if first < WHOLE {
+        let missing = WHOLE - first;
+        let grown = figures * ten_to(missing);
+        return Cut {
+            down: grown,
+            up: grown,
+            exponent: exponent + missing,
+        };
+    }
+    let surplus = first - WHOLE;
+    Cut {
+        down: shift_down(figures, surplus),
+        up: shift_up(figures, surplus),
+        exponent: exponent - surplus,
+    }
+}
+
+// The largest number that is not above m / 10^e, which is below 1 and has nine figures.
 fn place_down(m: u64, e: u32) -> Decimal
-    requires { (100000000 ≤ m) × ((8 < e → m < 1000000000)) }
+    requires { (100000000 ≤ m) × (m < 1000000000) × (8 < e) }
     ensures { result ≡ floor (decimal m e) }
 {
-    if e <= WHOLE {
-        return unit();
-    }
     if e > LAST {
         return nought();
     }
@@ -65,18 +83,21 @@ fn place_down(m: u64, e: u32) -> Decimal
     }
 }
 
-// The smallest number that is not below m / 10^e, where m has nine figures, or the whole is 1 or more.
+// The smallest number that is not below m / 10^e, which has nine figures or is 10^9 / 10^e.
 fn place_up(m: u64, e: u32) -> Decimal
-    requires { (100000000 ≤ m) × ((8 < e → m < 1000000000)) }
+    requires { (100000000 ≤ m) × (m ≤ 1000000000) × (8 < e) }
     ensures { result ≡ ceiling (decimal m e) }
 {
-    if e <= WHOLE {
-        return unit();
-    }
     if e > LAST {
         return Decimal {
             figures: NINE,
             exponent: LAST,
+        };
+    }
+    if m == TEN {
+        return Decimal {
+            figures: NINE,
+            exponent: e - 1,
         };
     }
     Decimal {
@@ -93,12 +114,12 @@ pub(crate) fn round_down(figures: u64, exponent: u32) -> Decimal
     if figures == 0 {
         return nought();
     }
-    let (mut m, mut e) = lengthened(figures, exponent);
-    while m >= TEN && e > WHOLE {
-        m /= 10;
-        e -= 1;
+    let first = figures.ilog10();
+    if first >= exponent {
+        return unit();
     }
-    place_down(m, e)
+    let cut = first_nine(figures, first, exponent);
+    place_down(cut.down, cut.exponent)
 }
 
 // The smallest number that is not below figures / 10^exponent, and 1 where that is above 1.
@@ -109,10 +130,10 @@ pub(crate) fn round_up(figures: u64, exponent: u32) -> Decimal
     if figures == 0 {
         return nought();
     }
-    let (mut m, mut e) = lengthened(figures, exponent);
-    while m >= TEN && e > WHOLE {
-        m = m.div_ceil(10);
-        e -= 1;
+    let first = figures.ilog10();
+    if first >= exponent {
+        return unit();
     }
-    place_up(m, e)
+    let cut = first_nine(figures, first, exponent);
+    place_up(cut.up, cut.exponent)
 }

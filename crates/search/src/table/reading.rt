@@ -30,7 +30,8 @@ impl Table {
     pub fn rows(&self) -> &[Row]
         ensures { result.now ≡ rows_of self.now }
     {
-        &self.rows[0..self.len()]
+        let rows = &self.rows[..];
+        &rows[..self.len()]
     }
 
     // Whether there is no room for another row.

@@ -5,12 +5,7 @@ ghost use Rattle.search.specs.Tables.{rows_of, barred_at};
 
 use crate::row::Row;
 use crate::table::Table;
-use sets::node_set::single;
-
-const BLANK: Row = Row {
-    inside: 0,
-    barred: 0,
-};
+use sets::set::NodeSet;
 
 impl Table {
     // A table without rows.
@@ -18,7 +13,10 @@ impl Table {
         ensures { rows_of result ≡ [] }
     {
         Table {
-            rows: [BLANK; 512],
+            rows: [Row {
+                inside: NodeSet::new(),
+                barred: NodeSet::new(),
+            }; 512],
             count: 0,
         }
     }
@@ -53,6 +51,6 @@ impl Table {
         requires { k < length (rows_of self.old) }
         ensures { rows_of self.new ≡ barred_at k v (rows_of self.old) }
     {
-        self.rows[k].barred |= single(v);
+        self.rows[k].barred = self.rows[k].barred | NodeSet::single(v);
     }
 }

@@ -36,17 +36,11 @@ impl Scale for TwoValues {
     }
 
     fn sum_down(x: Extreme, y: Extreme) -> Extreme {
-        match x {
-            Extreme::Never => y,
-            Extreme::Surely => x,
-        }
+        x.max(y)
     }
 
     fn sum_up(x: Extreme, y: Extreme) -> Extreme {
-        match x {
-            Extreme::Never => y,
-            Extreme::Surely => x,
-        }
+        x.max(y)
     }
 
     fn less_down(x: Extreme, y: Extreme) -> Extreme {
@@ -57,9 +51,6 @@ impl Scale for TwoValues {
     }
 
     fn at_most(x: Extreme, y: Extreme) -> bool {
-        match (x, y) {
-            (Extreme::Surely, Extreme::Never) => false,
-            _ => true,
-        }
+        x <= y
     }
 }

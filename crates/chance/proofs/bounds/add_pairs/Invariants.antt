@@ -5,4 +5,4 @@ use Rattle.chance.proofs.bounds.add_pairs.Given as goal
 
 abbrev pub invariant-loop-i : goal.invariant-loop-i
 invariant-loop-i g l =
-    l.all ≡ added_up g.S.Scale.arithmetic (g.N.RatedNetwork.rated l.network).ratings l.initial.all (map (λ row. bit_or row (get_or l.rows l.j 0)) (take l.i l.rows))
+    l.all ≡ added_up g.S.Scale.arithmetic l.ratings l.initial.all (map (λ row. bit_or row (get_or l.rows l.j 0)) (take l.i l.rows))

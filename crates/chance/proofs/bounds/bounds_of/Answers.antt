@@ -1,50 +1,21 @@
-use Rattle.std.proofs.Common.{◌≡◌, cond, eqb, ◌∙◌, rules}
-use Rattle.chance.specs.Bounds.{larger, low, added_up}
+use Rattle.std.proofs.Common.{ap, ◌∙◌}
+use Rattle.chance.specs.Bounds.{low, high}
 use Rattle.chance.proofs.Enclosed.{brackets}
 use Rattle.chance.proofs.LargestOf.{first-largest}
-use Rattle.chance.proofs.RowSteps.{added_none, rows_none, pairs-none, low-none, rows_more, pairs-more, low-more, high-more, all-rows, high_is}
 use Rattle.chance.proofs.bounds.bounds_of.Goals as goal
-
-pub loop-j-init : goal.loop-j-init
-loop-j-init g c =
-    let s = g.S.Scale.arithmetic in
-    let ratings = (g.N.RatedNetwork.rated c.args.network.now).ratings in (
-      c.zero-s1.ensures ∙ rows_none s ratings,
-      c.zero-s2.ensures ∙ pairs-none s ratings,
-      c.zero-low.ensures ∙ low-none s ratings,
-      c.zero-sum.ensures ∙ added_none s ratings s.zero,
-    )
-
-pub loop-j-preserved : goal.loop-j-preserved
-loop-j-preserved g c =
-    let s = g.S.Scale.arithmetic in
-    let ratings = (g.N.RatedNetwork.rated c.args.network.now).ratings in
-    let rows = c.args.rows.now in
-    let j = c.loop-j.j in
-    let h = c.loop-j-test.true in
-    let before = c.loop-j.invariant in
-    let first = rows_more s ratings rows j h c.add_down-s1.ensures before.0 in
-    let pairs = pairs-more s ratings rows j h c.add_pairs-s2.ensures before.1 in
-    let less : c.less_down.result ≡ s.less_down c.add_down-s1.result c.add_pairs-s2.result = search rules in
-    let step : c.better-low.result ≡ cond (eqb j 0) c.less_down.result (larger s c.loop-j.low c.less_down.result) = search rules in (
-      first,
-      pairs,
-      low-more s ratings rows j h step less before.2 first pairs,
-      high-more s ratings rows j {sum = c.loop-j.sum} h c.add_up-sum.ensures before.3,
-    )
 
 pub returns : goal.returns
 returns g c =
     let s = g.S.Scale.arithmetic in
-    let ratings = (g.N.RatedNetwork.rated c.args.network.now).ratings in
+    let net = g.N.RatedNetwork.rated c.args.network.now in
     let rows = c.args.rows.now in
     let finished = c.args.finished in
-    let h = c.loop-j-test.false in
-    let is-low = all-rows s ratings (low s ratings) rows c.loop-j.j h c.loop-j.invariant.2 in
-    let is-high = high_is s ratings finished rows c.high_bound.ensures (all-rows s ratings (added_up s ratings s.zero) rows c.loop-j.j h c.loop-j.invariant.3) in
+    let kept = c.as_slice.ensures ∙ c.of-ratings.ensures in
+    let is-low = c.bounds_from.ensures.low ∙ ap (λ rs. low s rs rows) kept in
+    let is-high = c.bounds_from.ensures.high ∙ ap (λ rs. high s rs finished rows) kept in
     record {
       low = is-low;
       high = is-high;
-      first = first-largest s g.met.S.Scale.rounded ratings rows _ is-low;
-      bracket = brackets s g.met.S.Scale.rounded (g.N.RatedNetwork.rated c.args.network.now) (g.N.RatedNetwork.legal c.args.network.now) rows finished _ _ is-low is-high;
+      first = first-largest s g.met.S.Scale.rounded net.ratings rows _ is-low;
+      bracket = brackets s g.met.S.Scale.rounded net (g.N.RatedNetwork.legal c.args.network.now) rows finished _ _ is-low is-high;
     }

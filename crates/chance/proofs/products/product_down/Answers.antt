@@ -1,22 +1,16 @@
-use Rattle.std.proofs.Common.{arith, rules}
-use Rattle.chance.proofs.Chosen.{down-none, down-some, down-kept, down-all}
+use Rattle.std.proofs.Common.{◌≡◌, ◌∙◌, sym, ap, fold, refl, rules}
+use Rattle.std.specs.Iterator.{YieldsFirst}
+use Rattle.std.proofs.lemmas.Fn.{fold_over}
+use Rattle.std.proofs.lemmas.Iterator.Consumers.{YieldsList-from_first}
+use Rattle.std.proofs.lemmas.List.Sums.{fold_push}
+use Rattle.chance.specs.Bounds.{chosen, product_down}
+use Rattle.chance.specs.declared.chosen.Chosen.{Chosen}
 use Rattle.chance.proofs.products.product_down.Goals as goal
-use Rattle.chance.proofs.products.product_down.Goals.{in-Some, in_default}
-
-pub loop-k-init : goal.loop-k-init
-loop-k-init g c =
-    let start = down-none g.S.Scale.arithmetic (g.N.RatedNetwork.rated c.args.network.now).ratings c.args.set in search rules
-
-pub loop-k-preserved : goal.loop-k-preserved
-loop-k-preserved g c =
-    let s = g.S.Scale.arithmetic in
-    let ratings = (g.N.RatedNetwork.rated c.args.network.now).ratings in
-    elim c.match-rating_in.branch [
-      | in-Some w ↦ down-some s ratings c.args.set c.loop-k.k w.in-Some.rating w.product-is w.times_down-product.ensures c.loop-k.invariant w.in-Some.ensures
-      | in_default w ↦ down-kept s ratings c.args.set c.loop-k.k w.product-is c.loop-k.invariant w.in_default.ensures
-    ]
 
 pub returns : goal.returns
+unfolding product_down
 returns g c =
-    let legal = g.N.RatedNetwork.legal c.args.network.now in
-    down-all g.S.Scale.arithmetic (g.N.RatedNetwork.rated c.args.network.now).ratings c.args.set c.loop-k.k c.loop-k.invariant (omega (arith, legal.each, legal.plain.branches))
+    let s = g.S.Scale.arithmetic in
+    let rest = λ (t : Chosen). chosen t.set 0 t.ratings.now in
+    fold_over (YieldsFirst rest) (λ x. x) _ (λ xs product. product ≡ fold s.times_down s.one xs) _ (λ xs product x next f k called. (let e : next ≡ s.times_down product x = search rules in e ∙ ap (λ n. s.times_down n x) k ∙ sym (fold_push s.times_down s.one xs x), search rules)) _ _ _ _
+    (YieldsList-from_first (λ x. x) rest _ refl).runs c.one.ensures c.fold.ensures.ran

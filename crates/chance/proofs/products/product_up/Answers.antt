@@ -1,22 +1,16 @@
-use Rattle.std.proofs.Common.{arith, rules}
-use Rattle.chance.proofs.Chosen.{up_none, up-some, up_kept, up-all}
+use Rattle.std.proofs.Common.{◌≡◌, ◌∙◌, sym, ap, fold, refl, rules}
+use Rattle.std.specs.Iterator.{YieldsFirst}
+use Rattle.std.proofs.lemmas.Fn.{fold_over}
+use Rattle.std.proofs.lemmas.Iterator.Consumers.{YieldsList-from_first}
+use Rattle.std.proofs.lemmas.List.Sums.{fold_push}
+use Rattle.chance.specs.Bounds.{chosen, product_up}
+use Rattle.chance.specs.declared.chosen.Chosen.{Chosen}
 use Rattle.chance.proofs.products.product_up.Goals as goal
-use Rattle.chance.proofs.products.product_up.Goals.{in-Some, in_default}
-
-pub loop-branch-init : goal.loop-branch-init
-loop-branch-init g c =
-    let start = up_none g.S.Scale.arithmetic (g.N.RatedNetwork.rated c.args.network.now).ratings c.args.set in search rules
-
-pub loop-branch-preserved : goal.loop-branch-preserved
-loop-branch-preserved g c =
-    let s = g.S.Scale.arithmetic in
-    let ratings = (g.N.RatedNetwork.rated c.args.network.now).ratings in
-    elim c.match-rating_in.branch [
-      | in-Some w ↦ up-some s ratings c.args.set c.loop-branch.branch w.in-Some.rating w.product-is w.times_up-product.ensures c.loop-branch.invariant w.in-Some.ensures
-      | in_default w ↦ up_kept s ratings c.args.set c.loop-branch.branch w.product-is c.loop-branch.invariant w.in_default.ensures
-    ]
 
 pub returns : goal.returns
+unfolding product_up
 returns g c =
-    let legal = g.N.RatedNetwork.legal c.args.network.now in
-    up-all g.S.Scale.arithmetic (g.N.RatedNetwork.rated c.args.network.now).ratings c.args.set c.loop-branch.branch c.loop-branch.invariant (omega (arith, legal.each, legal.plain.branches))
+    let s = g.S.Scale.arithmetic in
+    let rest = λ (t : Chosen). chosen t.set 0 t.ratings.now in
+    fold_over (YieldsFirst rest) (λ x. x) _ (λ xs product. product ≡ fold s.times_up s.one xs) _ (λ xs product x next f k called. (let e : next ≡ s.times_up product x = search rules in e ∙ ap (λ n. s.times_up n x) k ∙ sym (fold_push s.times_up s.one xs x), search rules)) _ _ _ _
+    (YieldsList-from_first (λ x. x) rest _ refl).runs c.one.ensures c.fold.ensures.ran

@@ -1,28 +1,31 @@
-use Rattle.std.proofs.Common.{◌<◌, length, sym, ◌∙◌, arith, rules}
-use Rattle.sets.proofs.Nth.{some_below}
+use Rattle.std.proofs.Common.{sym, ◌∙◌, length, length-append}
+use Rattle.network.proofs.Numbered.{given_none, given-all, given-next}
+use Rattle.sets.proofs.Nth.{below-some}
 use Rattle.sets.proofs.Shifts.{collect-none, collect-no}
 use Rattle.search.specs.Search.{crossing}
 use Rattle.search.proofs.RowSets.{crossing_is, crossed-more, branch-set-is}
-use Rattle.search.proofs.cut.branch_set_of.Goals.{in_Some-b+then-is_parted, in_Some-b+else-is_parted, in_default-b}
 use Rattle.search.proofs.cut.branch_set_of.Goals as goal
 
 pub loop-k-init : goal.loop-k-init
-loop-k-init g c = search (rules, collect-none)
+loop-k-init g c =
+    let net = g.N.Network.net c.args.network.now in
+    (given_none net.branches _ (c.into_iter-k-iterator.ensures.into_iter_gives ∙ c.branches_of-k-items.ensures), c.new-set.ensures ∙ sym (collect-none (crossing net c.args.row.now.inside)))
 
 pub loop-k-preserved : goal.loop-k-preserved
 loop-k-preserved g c =
-    let network = c.args.network.now in
-    let net = g.N.Network.net network in
-    let K = c.args.row.inside in
-    let k = c.loop-k.k in
-    let below : k < length net.branches = omega arith in
-    elim c.match-branch.branch [
-      | in_Some-b+then-is_parted w ↦
-          w.set-is ∙ crossed-more net (g.N.Network.legal network) K k c.loop-k.set _ below (crossing_is net K k w.in_Some-b.b (sym c.branch-b.ensures ∙ w.in_Some-b.is) ∙ sym w.if-is_parted.ensures) c.loop-k.invariant w.single-set.ensures
-      | in_Some-b+else-is_parted w ↦
-          w.set-is ∙ c.loop-k.invariant ∙ sym (collect-no k (crossing net K) (crossing_is net K k w.in_Some-b.b (sym c.branch-b.ensures ∙ w.in_Some-b.is) ∙ sym w.if-is_parted.ensures))
-      | in_default-b w ↦ absurd (some_below net.branches k below (sym c.branch-b.ensures ∙ w.in_default-b.is))
-    ]
+    let net = g.N.Network.net c.args.network.now in
+    let K = c.args.row.now.inside in
+    let next = given-next net.branches _ _ c.loop-k.invariant.0 _ _ _ c.in-Some.ensures.steps in
+    simp length-append (next.2, c.loop-k.invariant.1 ∙ sym (collect-no _ (crossing net K) (crossing_is net K _ c.in-Some.b next.1 ∙ sym c.if-is_parted.ensures)))
+
+pub loop-k-preserved-then-is_parted : goal.loop-k-preserved-then-is_parted
+loop-k-preserved-then-is_parted g c =
+    let net = g.N.Network.net c.args.network.now in
+    let K = c.args.row.now.inside in
+    let next = given-next net.branches _ _ c.loop-k.invariant.0 _ _ _ c.in-Some.ensures.steps in
+    simp length-append (next.2, c.bitor-set.ensures ∙ crossed-more net (g.N.Network.legal c.args.network.now) K _ c.loop-k.set c.single.result (below-some net.branches _ _ next.1) (crossing_is net K _ c.in-Some.b next.1 ∙ sym c.if-is_parted.ensures) c.loop-k.invariant.1 (rw (sym next.0) c.single.ensures))
 
 pub returns : goal.returns
-returns g c = search (rules, branch-set-is)
+returns g c =
+    let net = g.N.Network.net c.args.network.now in
+    branch-set-is net c.args.row.now (length c.loop-k.yielded) c.loop-k.set (given-all net.branches _ _ c.loop-k.invariant.0 c.in-None.ensures.steps.0) c.loop-k.invariant.1

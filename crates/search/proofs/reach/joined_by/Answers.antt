@@ -1,4 +1,4 @@
-use Rattle.std.proofs.Common.{◌≡◌, cond, sym, ap, ◌∙◌, arith}
+use Rattle.std.proofs.Common.{◌≡◌, cond, sym, ◌∙◌}
 use lib.Bits.{bit_or}
 use Rattle.std.proofs.lemmas.Bool.{cond-true, cond-false}
 use Rattle.sets.specs.Masks.{has}
@@ -9,22 +9,20 @@ use Rattle.search.proofs.reach.joined_by.Goals as goal
 
 pub returns-then-contains-2 : goal.returns-then-contains-2
 returns-then-contains-2 c =
-    let b = c.args.b in
     let S = c.args.set in
-    let O = c.args.others in
-    let first : c.if-contains.met ≡ cond (has S b.to) (bit_or O (single b.from)) O = elim c.if-contains.branch [
-      | then-contains w ↦ w.met-is ∙ ap (bit_or O) w.single-met.ensures ∙ sym (cond-true (has S b.to) _ _ (sym w.if-contains.ensures))
+    let b = c.args.b in
+    let first : c.if-contains.met ≡ cond (has S b.to) (bit_or c.new-met.result (single b.from)) c.new-met.result = elim c.if-contains.branch [
+      | then-contains w ↦ w.met-is ∙ w.insert.ensures ∙ sym (cond-true (has S b.to) _ _ (sym w.if-contains.ensures))
       | else-contains w ↦ w.met-is ∙ sym (cond-false (has S b.to) _ _ (sym w.if-contains.ensures))
     ] in
-    met_by b S O c.if-contains.met _ (omega arith) first (ap (bit_or c.if-contains.met) c.single-met-then-contains-2.ensures ∙ sym (cond-true (has S b.from) _ _ (sym c.if-contains-2.ensures)))
+    met_by b S c.new-met.result c.if-contains.met _ c.new-met.ensures first (c.insert-then-contains-2.ensures ∙ sym (cond-true (has S b.from) _ _ (sym c.if-contains-2.ensures)))
 
 pub returns-else-contains-2 : goal.returns-else-contains-2
 returns-else-contains-2 c =
-    let b = c.args.b in
     let S = c.args.set in
-    let O = c.args.others in
-    let first : c.if-contains.met ≡ cond (has S b.to) (bit_or O (single b.from)) O = elim c.if-contains.branch [
-      | then-contains w ↦ w.met-is ∙ ap (bit_or O) w.single-met.ensures ∙ sym (cond-true (has S b.to) _ _ (sym w.if-contains.ensures))
+    let b = c.args.b in
+    let first : c.if-contains.met ≡ cond (has S b.to) (bit_or c.new-met.result (single b.from)) c.new-met.result = elim c.if-contains.branch [
+      | then-contains w ↦ w.met-is ∙ w.insert.ensures ∙ sym (cond-true (has S b.to) _ _ (sym w.if-contains.ensures))
       | else-contains w ↦ w.met-is ∙ sym (cond-false (has S b.to) _ _ (sym w.if-contains.ensures))
     ] in
-    met_by b S O c.if-contains.met _ (omega arith) first (sym (cond-false (has S b.from) _ _ (sym c.if-contains-2.ensures)))
+    met_by b S c.new-met.result c.if-contains.met _ c.new-met.ensures first (sym (cond-false (has S b.from) _ _ (sym c.if-contains-2.ensures)))

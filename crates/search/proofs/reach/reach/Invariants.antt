@@ -7,4 +7,4 @@ use Rattle.search.proofs.reach.reach.Given as goal
 abbrev pub invariant-loop : goal.invariant-loop
 invariant-loop g l =
     let net = g.N.Network.net l.network in
-    spread net.nodes (avoiding l.over net l.avoid) (l.end - l.counter) l.set ≡ spread net.nodes (avoiding l.over net l.avoid) net.nodes l.start
+    spread net.nodes (avoiding l.over net l.avoid) (l.end - l.counter) l.set ≡ spread net.nodes (avoiding l.over net l.avoid) net.nodes l.fn.start

@@ -1,7 +1,10 @@
-use Rattle.std.proofs.Common.{◌≡◌}
+use Rattle.std.proofs.Common.{◌≡◌, length}
+use Rattle.network.proofs.Numbered.{Given}
 use Rattle.search.proofs.Walks.{met_of}
 use Rattle.search.proofs.reach.touching.Given as goal
 
--- the nodes that the first k branches join to the set
-abbrev pub invariant-loop-k : goal.invariant-loop-k
-invariant-loop-k g l = l.met ≡ met_of l.over (g.N.Network.net l.network) l.set l.k
+-- the nodes that the branches so far join to the set
+abbrev pub invariant-loop-b : goal.invariant-loop-b
+invariant-loop-b g l =
+    let net = g.N.Network.net l.network in
+    Given net.branches (length l.yielded) l.b-iterator × (l.met ≡ met_of l.over net l.set (length l.yielded))

@@ -21,5 +21,5 @@ returns g c =
     let p = c.run_tries-tries in
     record {
       answer = let made = p.ensures s.tries in search (rules, progress-is);
-      state = ap (λ (u : Search). record { head = s.head; door = s.door; search = u }) (p.ensures s.tries);
+      state = ap (λ (u : Search). record { stage = s.stage; search = u }) (p.ensures s.tries);
     }

@@ -1,9 +1,6 @@
-use Rattle.std.proofs.Common.{rules}
-use Rattle.sets.proofs.Nth.{nth-replicate, nth-replicate-past}
+use Rattle.std.proofs.Common.{◌∙◌}
+use Rattle.network.proofs.Ratings.{ring-rating}
 use Rattle.network.proofs.ring.RingRatedNetwork.rating.Goals as goal
 
-pub returns-then-k-self : goal.returns-then-k-self
-returns-then-k-self c = search (rules, nth-replicate)
-
-pub returns-else-k-self : goal.returns-else-k-self
-returns-else-k-self c = search (rules, nth-replicate-past)
+pub returns-clause-answer : goal.returns-clause-answer
+returns-clause-answer c = c.then_some.ensures ∙ ring-rating c.args.self.now.nodes c.args.k c.args.self.now.rating

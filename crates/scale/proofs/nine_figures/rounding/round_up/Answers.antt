@@ -1,25 +1,18 @@
 use Rattle.std.proofs.Common.{sym, ap, ◌∙◌, arith}
 use Rattle.scale.specs.Fractions.{decimal}
 use Rattle.scale.specs.NineFigures.{ceiling}
-use Rattle.scale.proofs.NineSteps.{ceiling-none, ceiling-same, ceiling-shorter}
+use Rattle.scale.proofs.NineSteps.{ceiling-none, ceiling-unit, from-first, ceiling-cut}
 use Rattle.scale.proofs.nine_figures.rounding.round_up.Goals as goal
 
 pub returns-then-figures-eq0 : goal.returns-then-figures-eq0
 returns-then-figures-eq0 c =
     c.nought.ensures ∙ ceiling-none c.args.exponent ∙ ap (λ n. ceiling (decimal n c.args.exponent)) (sym c.if-figures-eq0.true)
 
-pub loop-m-init : goal.loop-m-init
-loop-m-init c = (
-  omega arith,
-  ceiling-same (decimal c.lengthened-m.result.0 c.lengthened-m.result.1) (decimal c.args.figures c.args.exponent)
-      (omega arith),
-)
-
-pub loop-m-preserved : goal.loop-m-preserved
-loop-m-preserved c = (
-  omega arith,
-  ceiling-shorter c.loop-m.m c.loop-m.e _ _ (omega arith) (omega arith) (omega arith) (omega arith) ∙ c.loop-m.invariant.1,
-)
+pub returns-then-first-exponent : goal.returns-then-first-exponent
+returns-then-first-exponent c = c.unit.ensures ∙ ceiling-unit c.args.figures c.args.exponent (from-first c.args.figures c.args.exponent c.ilog10-first.result c.ilog10-first.ensures.power_le (omega arith))
 
 pub returns : goal.returns
-returns c = c.place_up.ensures ∙ c.loop-m.invariant.1
+returns c =
+    let q = decimal c.args.figures c.args.exponent in
+    let cut = c.first_nine-cut.result in
+    c.place_up.ensures ∙ ceiling-cut q cut.down cut.exponent cut.up c.first_nine-cut.ensures.nine.0 c.first_nine-cut.ensures.last c.first_nine-cut.ensures.up

@@ -6,4 +6,4 @@ pub offset_bounds-self-k : goal.offset_bounds-self-k
 offset_bounds-self-k c = let n = length-rows c.args.self.now in search rules
 
 pub returns : goal.returns
-returns c = let n = length-rows c.args.self.now in search (rules, bar-written)
+returns c = bar-written c.args.self.now c.args.k c.requires c.args.v c.single.result c.bitor.result c.index-self-k-2.result c.index-self-k.result c.single.ensures c.bitor.ensures
