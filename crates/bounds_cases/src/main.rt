@@ -2,77 +2,63 @@
 // as numbers, bit k for branch k.
 #![tactic(auto)]
 
-use anyhow::anyhow;
-use chance::bounds::bounds_of;
-use deck::reader::read_deck;
+use anyhow::{anyhow, bail};
+use chance::bounds::{Bounds, bounds_of};
 use network::branch::TableRow;
-use network::list::List;
+use network::cut::Cut;
 use network::traits::RatedNetwork;
 use scale::billionths::Billionths;
 use scale::nine_figures::NineFigures;
+use sets::set::{BranchSet, NodeSet};
+use sheet::reading::read_network;
 use std::alloc::Global;
 use std::fs;
 use std::io::{BufRead, BufReader};
+use std::rt::Files;
 
+// Stays a print for each scale: the words and the type of the numbers differ, and two lines are all that there is.
 fn tell_bounds<N: RatedNetwork>(
-    rt: &HostRuntime,
+    rt: &impl Print,
     network: &N,
-    sets: &[u64],
+    cuts: &[Cut],
     finished: bool,
 ) -> anyhow::Result<()> {
-    let coarse = bounds_of::<Billionths, N>(network, sets, finished);
-    let low = coarse.low;
-    let high = coarse.high;
+    let Bounds { low, high } = bounds_of::<Billionths, N>(network, cuts, finished);
     println!(rt; "LOW {low} HIGH {high}")?;
-    let fine = bounds_of::<NineFigures, N>(network, sets, finished);
-    let low = fine.low;
-    let high = fine.high;
+    let Bounds { low, high } = bounds_of::<NineFigures, N>(network, cuts, finished);
     println!(rt; "FINE {low} {high}")?;
     Ok(())
 }
 
-fn sets_in(heap: Global, words: &[&str]) -> anyhow::Result<Vec<u64>> {
-    let mut sets = Vec::new(heap);
-    for word in words {
-        sets.push(word.parse::<u64>()?)?;
-    }
-    Ok(sets)
+// A cut by its branch set alone.
+fn cut_in(word: &str) -> anyhow::Result<Cut> {
+    Ok(Cut {
+        branches: BranchSet::from(word.parse::<u64>()?),
+        nodes: NodeSet::new(),
+    })
 }
 
-fn tell_list(
-    rt: &HostRuntime,
-    nodes: u32,
-    rows: &[TableRow],
-    sets: &[u64],
-    finished: bool,
-) -> anyhow::Result<()> {
-    let mut list = List::new();
-    if list.fill(nodes, rows).is_err() {
-        return Err(anyhow!("the deck's branches are no network"));
-    }
-    tell_bounds(rt, &list, sets, finished)
+fn cuts_in(heap: Global, words: &[&str]) -> anyhow::Result<Vec<Cut>> {
+    words.iter().map(|word| cut_in(*word)).try_collect(heap)
 }
 
-fn tell_case(rt: &HostRuntime, line: &str) -> anyhow::Result<()> {
+fn tell_case(rt: &(impl Files + Print + AllocGlobal), line: &str) -> anyhow::Result<()> {
     println!(rt; "{line}")?;
     let words: Vec<&str> = line.split(' ').collect(rt.alloc())?;
     let [file, status, sets @ ..] = words.as_slice() else {
-        return Err(anyhow!("a case names a file and a status"));
+        bail!("a case names a file and a status");
     };
     let bytes = fs::read(rt, *file)?;
-    let mut table = [TableRow::BLANK; 64];
-    let Ok(deck) = read_deck(&bytes, &mut table) else {
-        return Err(anyhow!("the deck is refused"));
-    };
-    let sets = sets_in(rt.alloc(), sets)?;
-    let rows = &table[0..(deck.branches as usize).min(64)];
-    tell_list(rt, deck.nodes, rows, &sets, *status == "FINISHED")
+    let mut table = [TableRow::default(); 64];
+    let (network, _) = read_network(&bytes, &mut table).map_err(|_| anyhow!(
+        "the deck is refused"
+    ))?;
+    let cuts = cuts_in(rt.alloc(), sets)?;
+    tell_bounds(rt, &network, &cuts, *status == "FINISHED")
 }
 
 fn main(rt: HostRuntime) -> anyhow::Result<()> {
-    for line in BufReader::new(rt.alloc(), rt.stdin())?.lines(rt.alloc()) {
-        let line = line?;
-        tell_case(&rt, line.as_str())?;
-    }
-    Ok(())
+    BufReader::new(rt.alloc(), rt.stdin())?
+        .lines(rt.alloc())
+        .try_for_each(|line| tell_case(&rt, line?.as_str()))
 }

@@ -1,14 +1,15 @@
 -- The low bound is the difference of the shortest prefix that has the largest.
-use Rattle.std.proofs.Common.{◌≡◌, ℕ, zero, suc, ◌*◌, ◌<◌, ◌≤◌, Bool, true, false, cond, eqb, List, length, take, sym, refl, ap, ◌∙◌, subst, ⊎_elim, add-one, arith, take_all}
+use Rattle.std.proofs.Common.{◌≡◌, ℕ, zero, suc, ◌*◌, ◌<◌, ◌≤◌, Bool, true, false, cond, eqb, List, [], ◌∷◌, ◌++◌, length, get_or, take, sym, refl, ap, ◌∙◌, subst, ⊎_elim, add-one, arith, length-take, take_all}
+use Rattle.std.proofs.lemmas.List.{take_more}
 use Rattle.std.proofs.lemmas.Bool.{cases_lt, cond-false, ne_eqb}
 use Rattle.sets.proofs.Members.{clash}
 use Rattle.network.specs.declared.rating.Rating.{Rating}
 use Rattle.scale.specs.Fractions.{◌≤ᶠ◌}
 use Rattle.scale.specs.Arithmetic.{Arithmetic, Rounded}
 use Rattle.scale.specs.FractionOrder.{at-most-trans}
-use Rattle.chance.specs.Bounds.{larger, row_sum, pair_sum, low}
+use Rattle.chance.specs.Bounds.{larger, low}
 use Rattle.chance.specs.Largest.{after, FirstLargest}
-use Rattle.chance.proofs.RowSteps.{low-more, low-none}
+use Rattle.chance.proofs.RowSteps.{low-push, low-none}
 
 module _ {Num : Type 0} (s : Arithmetic Num) (law : Rounded s) (ratings : List Rating) (rows : List ℕ) where
   -- the first largest of the first n differences
@@ -53,8 +54,9 @@ module _ {Num : Type 0} (s : Arithmetic Num) (law : Rounded s) (ratings : List R
 
   step : (j : ℕ) → j < length rows → low s ratings (take (suc j) rows) ≡ cond (eqb j 0) (after s ratings rows j) (larger s (low s ratings (take j rows)) (after s ratings rows j))
   step j h =
-      sym (subst (λ n. cond (eqb j 0) (after s ratings rows j) (larger s (low s ratings (take j rows)) (after s ratings rows j)) ≡ low s ratings (take n rows)) (add-one j)
-      (low-more s ratings rows j h refl refl refl (ap (λ n. row_sum s ratings (take n rows)) (sym (add-one j))) (ap (λ n. pair_sum s ratings (take n rows)) (sym (add-one j)))))
+      let l : length (take j rows) ≡ j = simp length-take (omega arith) in
+      let more : take (suc j) rows ≡ take j rows ++ get_or rows j 0 ∷ [] = ap (λ n. take n rows) (sym (add-one j)) ∙ take_more rows j 0 h in
+      rw more (low-push s ratings (take j rows) (get_or rows j 0) ∙ rw l)
 
   best : (j : ℕ) → j < length rows → Best (suc j) (low s ratings (take (suc j) rows))
   best zero h = same-best 1 (after s ratings rows 0) _ (step 0 h) (record {

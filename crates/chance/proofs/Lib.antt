@@ -1,4 +1,4 @@
-pub mod NextChosen
+pub mod Chosen
 pub mod RowSteps
 pub mod Risks
 pub mod OverSets

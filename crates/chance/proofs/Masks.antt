@@ -1,17 +1,11 @@
 -- Sets of branches as masks, one branch at a time: the first branch by the lowest bit, the others by the half.
-use Rattle.std.proofs.Common.{◌≡◌, ℕ, zero, suc, ◌+◌, ◌*◌, ◌/◌, ◌%◌, ◌^◌, ◌<◌, min, max, Bool, true, false, ◌||◌, T, eqb, ◌⊎◌, List, ◌∷◌, sym, refl, ap, ◌∙◌, subst, inl, inr, arith, eqb→eq}
-use lib.Bits.{bit_and, bit_or, and_step, or_step, or_shr}
-use native.Mathlib.Nat.{div-div-eq-div-mul, pow-succ'}
-use Rattle.std.proofs.lemmas.Bool.{and_parts}
+use Rattle.std.proofs.Common.{◌≡◌, ℕ, zero, suc, ◌+◌, ◌*◌, ◌/◌, ◌%◌, ◌<◌, max, Bool, true, false, ◌||◌, T, eqb, ◌⊎◌, List, ◌∷◌, sym, refl, ◌∙◌, subst, inl, inr, arith}
+use lib.Bits.{bit_or, or_step, or_shr}
 use Rattle.sets.specs.Masks.{has, ◌∈◌}
-use Rattle.sets.proofs.Members.{clash, has-suc, has-zero, has-none, has-or, has-and}
+use Rattle.sets.proofs.Members.{clash, has-suc, has-zero, has-none, has-or}
 use Rattle.chance.specs.CutOff.{Within}
 use Rattle.chance.proofs.Risks.{Risk, AbleRisks}
 use Rattle.chance.proofs.OverSets.{first}
-
--- bit k of the half is bit k + 1
-pub half-shift : (z k : ℕ) → z / 2 / 2 ^ k ≡ z / 2 ^ suc k
-half-shift z k = div-div-eq-div-mul z 2 (2 ^ k) ∙ ap (λ p. z / p) (sym (pow-succ' 2 k))
 
 pub has-half : (z k : ℕ) → k ∈ z / 2 → suc k ∈ z
 has-half z k h = has-suc z k ∙ h
@@ -88,26 +82,3 @@ first-or c d = rw (or-low c d) (bits (c % 2) (d % 2) (omega arith) (omega arith)
     bits zero (suc (suc y)) p q = absurd (omega arith)
     bits (suc zero) (suc (suc y)) p q = absurd (omega arith)
     bits (suc (suc x)) y p q = absurd (omega arith)
-
--- one set lies within another as the code tests it, by c & z == c
-pub within-from-and : (c z : ℕ) → bit_and c z ≡ c → Within c z
-within-from-and c z e k h = (and_parts (has c k) (has z k) (sym (has-and c z k) ∙ ap (λ n. has n k) e ∙ h)).1
-
-pub and-from-within : (c z : ℕ) → Within c z → bit_and c z ≡ c
-and-from-within c z h = go c c z (lt-pow c) h
-  where
-    lt-pow : (n : ℕ) → n < 2 ^ n
-    lt-pow zero = omega arith
-    lt-pow (suc n) = omega (arith, lt-pow n)
-
-    low_bit : (x y : ℕ) → x < 2 → (x ≡ 1 → y ≡ 1) → min x y ≡ x
-    low_bit zero y l h = omega arith
-    low_bit (suc zero) y l h = let e = h refl in omega arith
-    low_bit (suc (suc x)) y l h = absurd (omega arith)
-
-    go : (n c z : ℕ) → c < 2 ^ n → Within c z → bit_and c z ≡ c
-    go zero c z l h = let e : c ≡ 0 = omega arith in rw e
-    go (suc n) c z l h =
-        let i = go n (c / 2) (z / 2) (omega arith) (within-half c z h) in
-        let k = low_bit (c % 2) (z % 2) (omega arith) (λ e. eqb→eq (z % 2) 1 (has_first z (h 0 (first-has c (rw e tt))))) in
-        omega (arith, and_step c z)

@@ -3,6 +3,7 @@ use Rattle.std.proofs.Common.{◌≡◌, ℕ, ◌*◌, Bool, true, false, cond, 
 use mathlib.Core.List.{map-append}
 use Rattle.std.specs.List.{AllByRecursion}
 use Rattle.std.proofs.lemmas.Bool.{cases_lt}
+use Rattle.std.proofs.lemmas.List.Sums.{fold-append}
 use Rattle.sets.proofs.Members.{clash}
 use Rattle.network.specs.declared.rating.Rating.{Rating}
 use Rattle.scale.specs.Fractions.{Fraction, whole, ◌≤ᶠ◌}
@@ -10,7 +11,7 @@ use Rattle.scale.specs.Arithmetic.{Arithmetic, Rounded}
 use Rattle.scale.specs.FractionOrder.{at-most-trans}
 use Rattle.chance.specs.Bounds.{prefixes, larger, largest, difference, low, high}
 use Rattle.chance.specs.Bracket.{Narrowing}
-use Rattle.chance.proofs.RowSteps.{folded-append, prefixes-append}
+use Rattle.chance.proofs.RowSteps.{prefixes-append}
 
 module _ {Num : Type 0} (s : Arithmetic Num) (law : Rounded s) where
   abbrev Below : Fraction → Num → Type 0
@@ -50,7 +51,7 @@ module _ {Num : Type 0} (s : Arithmetic Num) (law : Rounded s) where
   unfolding largest
   largest-above [] more = zero-below (s.value (largest s more))
   largest-above (n ∷ ns) more =
-      subst (λ l. s.value (fold (larger s) n ns) ≤ᶠ s.value l) (sym (folded-append (larger s) n ns more)) (folded-above more (fold (larger s) n ns))
+      subst (λ l. s.value (fold (larger s) n ns) ≤ᶠ s.value l) (sym (fold-append (larger s) n ns more)) (folded-above more (fold (larger s) n ns))
 
   module _ (ratings : List Rating) where
     low-grows : (rows more : List ℕ) → s.value (low s ratings rows) ≤ᶠ s.value (low s ratings (rows ++ more))

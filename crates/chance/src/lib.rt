@@ -2,6 +2,4 @@
 #![tactic(auto)]
 
 pub mod bounds;
-mod chosen;
-mod products;
 mod ratings;

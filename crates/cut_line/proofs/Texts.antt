@@ -1,8 +1,11 @@
 -- The numbers of a line, one after another.
-use Rattle.std.proofs.Common.{◌≡◌, ℕ, ◌+◌, ◌*◌, ◌/◌, ◌%◌, ◌<◌, ◌≤◌, Bool, true, false, cond, List, [], ◌∷◌, ◌++◌, length, decimal, sym, refl, ap, ◌∙◌, append_assoc, append-nil, add-one, arith, length-append}
+use Rattle.std.proofs.Common.{◌≡◌, ℕ, zero, suc, ◌+◌, ◌*◌, ◌/◌, ◌%◌, ◌<◌, ◌≤◌, List, [], ◌∷◌, ◌++◌, length, decimal, sym, refl, ap, ◌∙◌, append_assoc, append-nil, subst, arith, length-append}
+use Rattle.std.specs.List.{AllByRecursion}
+use Rattle.std.proofs.ByRecursion.{All-append, All-weaker}
+use Rattle.std.proofs.lemmas.Bool.{cond_both}
 use Rattle.std.proofs.lemmas.Fmt.{decimal_digit, decimal_step, length-decimal-le}
-use Rattle.cut_line.specs.Cuts.{members_below, spaced}
-use Rattle.sets.specs.Masks.{has}
+use Rattle.cut_line.specs.Cuts.{spaced}
+use Rattle.sets.specs.Masks.{has, members}
 
 pub one-digit : (old : List ℕ) (n : ℕ) → n < 10 → (old ++ 32 ∷ []) ++ (48 + n % 10) ∷ [] ≡ old ++ spaced (n ∷ [])
 one-digit old n h =
@@ -14,33 +17,43 @@ two_digits old n l h =
     append_assoc (old ++ 32 ∷ []) _ _ ∙ append_assoc old (32 ∷ []) _
     ∙ ap (λ ds. old ++ 32 ∷ ds) (sym (append-nil (decimal n) ∙ decimal_step n l (omega arith) ∙ ap (λ ds. ds ++ ((48 + n % 10) ∷ [])) (decimal_digit (n / 10) (omega arith))))
 
-spaced-append : (ms : List ℕ) (n : ℕ) → spaced (ms ++ n ∷ []) ≡ spaced ms ++ spaced (n ∷ [])
-spaced-append [] n = refl
-spaced-append (m ∷ ms) n = ap (λ t. 32 ∷ (decimal m ++ t)) (spaced-append ms n) ∙ ap (λ t. 32 ∷ t) (sym (append_assoc (decimal m) (spaced ms) (spaced (n ∷ []))))
+pub spaced-append : (ms ns : List ℕ) → spaced (ms ++ ns) ≡ spaced ms ++ spaced ns
+spaced-append [] ns = refl
+spaced-append (m ∷ ms) ns = ap (λ t. 32 ∷ (decimal m ++ t)) (spaced-append ms ns) ∙ ap (λ t. 32 ∷ t) (sym (append_assoc (decimal m) (spaced ms) (spaced ns)))
 
-pub length-spaced : (n : ℕ) → n < 100 → length (spaced (n ∷ [])) ≤ 3
-length-spaced n h = simp (length-append) (omega (arith, length-decimal-le 2 n (omega arith) (omega arith) (omega arith)))
+-- the members below n are at most n, each below n
 
-members_step : (set k : ℕ) (b : Bool) → has set k ≡ b → members_below (k + 1) set ≡ members_below k set ++ cond b (k ∷ []) []
-unfolding members_below
-members_step set k b e = ap (λ n. members_below n set) (add-one k) ∙ ap (λ t. members_below k set ++ cond t (k ∷ []) []) e
+length-members : (n S : ℕ) → length (members n S) ≤ n
+unfolding members
+length-members zero S = omega arith
+length-members (suc n) S =
+    let few = length-members n S in
+    rw length-append (cond_both (has S n) (n ∷ []) [] (λ ns. length (members n S) + length ns ≤ suc n) (λ _. omega arith) (λ _. omega arith))
 
--- the text now is the text before and the numbers of the members below k
-pub record Below (set k : ℕ) (before now : List ℕ) : Type 0 where
-  pub few : length now ≤ length before + 3 * k
-  pub bytes : now ≡ before ++ spaced (members_below k set)
+members-below : (n S : ℕ) → AllByRecursion (λ k. k < n) (members n S)
+unfolding members
+members-below zero S = tt
+members-below (suc n) S =
+    All-append (λ k. k < suc n) (members n S) _ (All-weaker (λ k. k < n) (λ k. k < suc n) (λ k l. omega arith) (members n S) (members-below n S))
+    (cond_both (has S n) (n ∷ []) [] (AllByRecursion (λ k. k < suc n)) (λ _. (omega arith, tt)) (λ _. tt))
 
-pub below_none : (set : ℕ) (before : List ℕ) → Below set 0 before before
-unfolding members_below
-below_none set before = record { few = omega arith; bytes = sym (append-nil before) }
+-- numbers below n of at most two digits take three bytes each with their spaces
+length-spaced : (n : ℕ) (ks : List ℕ) → n ≤ 100 → AllByRecursion (λ k. k < n) ks → length (spaced ks) ≤ 3 * length ks
+length-spaced n [] two all = omega arith
+length-spaced n (k ∷ ks) two all =
+    let digits = length-decimal-le 2 k (omega arith) (omega arith) (omega (arith, all.0)) in
+    let more = length-spaced n ks two all.1 in
+    omega (arith, length-append (decimal k) (spaced ks))
 
-pub below_in : (set k : ℕ) (before now after : List ℕ) → Below set k before now → k < 100 → has set k ≡ true → after ≡ now ++ spaced (k ∷ []) → Below set (k + 1) before after
-below_in set k before now after b h m e =
-    let long : length after ≡ length now + length (spaced (k ∷ [])) = ap length e ∙ length-append now (spaced (k ∷ [])) in
-    record {
-      few = omega (arith, b.few, long, length-spaced k h);
-      bytes = e ∙ ap (λ t. t ++ spaced (k ∷ [])) b.bytes ∙ append_assoc before _ _ ∙ ap (λ t. before ++ t) (sym (ap spaced (members_step set k true m) ∙ spaced-append (members_below k set) k));
-    }
+front-below : (n k : ℕ) (ks rest : List ℕ) → AllByRecursion (λ j. j < n) (ks ++ k ∷ rest) → AllByRecursion (λ j. j < n) ks × (k < n)
+front-below n k [] rest all = (tt, all.0)
+front-below n k (j ∷ ks) rest all = let front = front-below n k ks rest all.1 in ((all.0, front.0), front.1)
 
-pub below_out : (set k : ℕ) (before now : List ℕ) → Below set k before now → has set k ≡ false → Below set (k + 1) before now
-below_out set k before now b m = record { few = omega (arith, b.few); bytes = rw (members_step set k false m ∙ append-nil _) b.bytes }
+-- a member, and the room that the ones before it leave
+pub member_fits : (n S k : ℕ) (ks rest : List ℕ) → n ≤ 64 → members n S ≡ ks ++ k ∷ rest → (length (spaced ks) + 3 ≤ 3 * n) × (k < n)
+member_fits n S k ks rest few parts =
+    let below = front-below n k ks rest (subst (AllByRecursion (λ j. j < n)) parts (members-below n S)) in
+    (omega (arith, length-members n S, ap length parts, length-append ks (k ∷ rest), length-spaced n ks (omega arith) below.0), below.1)
+
+pub members_fit : (n S : ℕ) → n ≤ 64 → length (spaced (members n S)) ≤ 3 * n
+members_fit n S few = omega (arith, length-members n S, length-spaced n (members n S) (omega arith) (members-below n S))

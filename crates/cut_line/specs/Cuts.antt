@@ -1,17 +1,12 @@
 -- The bytes of a CUT line, and a buffer after it is written.
-use Rattle.std.specs.Prelude.{ℕ, zero, suc, ◌+◌, cond, List, [], ◌∷◌, ◌++◌, length, take, drop, Ok, Err, codes, decimal, Result, nat_le}
-use Rattle.sets.specs.Masks.{has}
+use Rattle.std.specs.Prelude.{ℕ, ◌+◌, cond, List, [], ◌∷◌, ◌++◌, length, take, drop, Ok, Err, codes, decimal, Result, nat_le}
+use Rattle.sets.specs.Masks.{members}
 use Rattle.refusals.specs.declared.study_fault.StudyFault.{StudyFault}
 use Rattle.refusals.specs.declared.study_fault.StudyFault.TheVariants.{Buffer}
 
 -- the list xs with bs from the place at on
 abbrev pub written : ℕ → List ℕ → List ℕ → List ℕ
 written at bs xs = take at xs ++ (bs ++ drop (at + length bs) xs)
-
--- the members below n of the set S, rising
-unfoldable pub members_below : ℕ → ℕ → List ℕ
-members_below zero S = []
-members_below (suc n) S = members_below n S ++ cond (has S n) (n ∷ []) []
 
 -- each number in decimal, without leading zeros, after a space
 abbrev pub spaced : List ℕ → List ℕ
@@ -20,7 +15,7 @@ spaced (n ∷ ns) = 32 ∷ (decimal n ++ spaced ns)
 
 -- CUT, the branches, a stroke, the nodes of the node vector
 abbrev pub cut_line : ℕ → ℕ → List ℕ
-cut_line branches nodes = codes "CUT" ++ (spaced (members_below 64 branches) ++ (codes " /" ++ (spaced (members_below 32 nodes) ++ (10 ∷ []))))
+cut_line branches nodes = codes "CUT" ++ (spaced (members 64 branches) ++ (codes " /" ++ (spaced (members 32 nodes) ++ (10 ∷ []))))
 
 -- the length of the line, where the buffer has 320 places
 abbrev pub cut_length : ℕ → ℕ → ℕ → Result ℕ StudyFault

@@ -3,21 +3,24 @@
 
 ghost use Rattle.std.specs.Prelude.{◌≡◌, ◌+◌, ◌*◌, ◌<◌, ◌≤◌, [], ◌∷◌, ◌++◌, length};
 ghost use Rattle.arrayvec.specs.ArrayString.{array_string_len};
-ghost use Rattle.cut_line.specs.Cuts.{members_below, spaced, cut_line, cut_written, cut_length};
+ghost use Rattle.sets.specs.Masks.{members};
+ghost use Rattle.cut_line.specs.Cuts.{spaced, cut_line, cut_written, cut_length};
 
 use arrayvec::ArrayString;
 use refusals::study_fault::StudyFault;
-use sets::set::BranchSet;
+use sets::set::{BranchSet, NodeSet, Set};
+use sets::width::Width;
 
 // Every line has room in this: 3 bytes for each of 64 branches and of 32 nodes, and 6 more.
 pub type Line = ArrayString<320>;
 
 // Appends a space and a number of at most two digits.
-fn push_number(line: &mut Line, n: u8)
+fn push_number(line: &mut Line, n: u32)
     requires room { array_string_len line.old + 3 ≤ 320 }
     requires small { n < 100 }
     ensures { line.new.bytes ≡ line.old.bytes ++ spaced (n ∷ []) }
 {
+    let n = n as u8;
     line.push(' ');
     if n >= 10 {
         line.push(char::from(b'0' + n / 10));
@@ -25,29 +28,27 @@ fn push_number(line: &mut Line, n: u8)
     line.push(char::from(b'0' + n % 10));
 }
 
-// Appends the numbers of a set's members below a limit, rising, each after a space.
-fn push_members(line: &mut Line, members: BranchSet, limit: u8)
-    requires room { array_string_len line.old + 3 * limit ≤ 320 }
-    requires small { limit ≤ 64 }
-    ensures few { array_string_len line.new ≤ array_string_len line.old + 3 * limit }
-    ensures bytes { line.new.bytes ≡ line.old.bytes ++ spaced (members_below limit members) }
+// Appends the members of a set, rising, each after a space.
+fn push_members<W: Width>(line: &mut Line, set: Set<W>)
+    requires { array_string_len line.old + 3 * W.BITS ≤ 320 }
+    ensures few { array_string_len line.new ≤ array_string_len line.old + 3 * W.BITS }
+    ensures bytes { line.new.bytes ≡ line.old.bytes ++ spaced (members W.BITS set) }
 {
-    for k in 0..limit {
-        if members.contains(u32::from(k)) {
-            push_number(line, k);
-        }
+    for k in set {
+        push_number(line, k);
     }
 }
 
 // The CUT line of a branch set and a node vector, with its byte 10.
+// Stays a pair of bare words: the rules fix that a shown row is (u64, u32).
 pub fn line_of(branches: u64, nodes: u32) -> Line
     ensures { result.bytes ≡ cut_line branches nodes }
 {
     let mut line = Line::new();
     line.push_str("CUT");
-    push_members(&mut line, BranchSet::from(branches), 64);
+    push_members(&mut line, BranchSet::from(branches));
     line.push_str(" /");
-    push_members(&mut line, BranchSet::from(u64::from(nodes)), 32);
+    push_members(&mut line, NodeSet::from(nodes));
     line.push('\n');
     line
 }

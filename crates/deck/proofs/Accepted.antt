@@ -2,46 +2,28 @@
 use Rattle.std.proofs.Common.{◌≡◌, ℕ, zero, suc, ◌+◌, ◌≤◌, Bool, true, false, cond, eqb, leb, List, [], ◌∷◌, ◌++◌, length, Some, None, Ok, Err, Result, sym, refl, ap, ◌∙◌, subst, arith}
 use Rattle.std.proofs.lemmas.List.{length_push}
 use Rattle.std.proofs.lemmas.Bool.{and_parts, and_from, leb-true, le-leb, eqb-true, cond-true, false≢true}
-use Rattle.refusals.specs.declared.network_fault.NetworkFault.{NetworkFault}
-use Rattle.refusals.specs.declared.study_fault.StudyFault.{StudyFault}
 use Rattle.refusals.specs.declared.deck_fault.DeckFault.{DeckFault}
 use Rattle.refusals.specs.declared.deck_fault.DeckFault.TheVariants.{Turn, Numbers}
 use Rattle.refusals.specs.declared.deck_fault.DeckRefusal.{DeckRefusal}
 use Rattle.network.specs.declared.branch.TableRow.{TableRow}
 use Rattle.network.specs.declared.branch.Condition.{Condition}
-use Rattle.network.specs.Questions.{Answer, asked, and_then, nodes_asked, count_asked, row_asked, rows_asked, head_asked, list_asked}
+use Rattle.network.specs.Questions.{Answer, and_then, nodes_asked, count_asked, row_asked, rows_asked, head_asked, list_asked}
 use Rattle.deck.specs.Cards.{Keyword, nodes, branch, failed, working, door, Reading, unknown, card, cards}
-use Rattle.deck.specs.Decks.{Entry, nodes_are, branch_is, mark_is, door_is, entry_of, nodes_in, branches_in, marked, last_turn, follows, turn_of, to_study, to_deck, entry_asked, card_after, refused, read_cards, read_bytes, read_if, bytes_asked}
+use Rattle.deck.specs.Decks.{Entry, nodes_are, branch_is, mark_is, door_is, entry_of, nodes_in, branches_in, marked, last_turn, follows, turn_of, to_study, entry_asked, card_after, read_cards, read_bytes, read_if, bytes_asked}
 use Rattle.deck.proofs.Drafts.{length_marked}
-use Rattle.deck.proofs.Steps.{from-turn, from-entered}
+use Rattle.deck.proofs.Steps.{answer, from-turn, from-entered, from-asked, from_then, from-study, from-deck}
 
 -- answers that were yes
 
-both_yes : {F : Type 0} (first next : Answer F) → and_then first next ≡ Ok tt → (first ≡ Ok tt) × (next ≡ Ok tt)
-both_yes (Ok u) next e = (refl, e)
-both_yes (Err f) next e = let z : ◌≡◌ {A = ℕ} 0 1 = cc in absurd (omega arith)
-
 yes_both : {F : Type 0} (first next : Answer F) → first ≡ Ok tt → next ≡ Ok tt → and_then first next ≡ Ok tt
 yes_both first next p q = ap (λ a. and_then a next) p ∙ q
-
-study-yes : (a : Answer NetworkFault) → to_study a ≡ Ok tt → a ≡ Ok tt
-study-yes (Ok u) e = refl
-study-yes (Err f) e = let z : ◌≡◌ {A = ℕ} 0 1 = cc in absurd (omega arith)
-
-deck-yes : (a : Answer StudyFault) → to_deck a ≡ Ok tt → a ≡ Ok tt
-deck-yes (Ok u) e = refl
-deck-yes (Err f) e = let z : ◌≡◌ {A = ℕ} 0 1 = cc in absurd (omega arith)
-
-asked-yes : {F : Type 0} (b : Bool) (f : F) → asked b f ≡ Ok tt → b ≡ true
-asked-yes true f e = refl
-asked-yes false f e = let z : ◌≡◌ {A = ℕ} 0 1 = cc in absurd (omega arith)
 
 -- rows
 
 rows-push : (n k : ℕ) (rows : List TableRow) (row : TableRow) → rows_asked n k rows ≡ Ok tt → row_asked n (k + length rows) row ≡ Ok tt → rows_asked n k (rows ++ row ∷ []) ≡ Ok tt
 rows-push n k [] row e h = let z : k + 0 ≡ k = omega arith in yes_both _ _ (ap (λ i. row_asked n i row) (sym z) ∙ h) refl
 rows-push n k (first ∷ rows) row e h =
-    let p = both_yes (row_asked n k first) (rows_asked n (k + 1) rows) e in
+    let p = from_then (row_asked n k first) (rows_asked n (k + 1) rows) e in
     let z : k + suc (length rows) ≡ k + 1 + length rows = omega arith in
     yes_both _ _ p.0 (rows-push n (k + 1) rows row p.1 (ap (λ i. row_asked n i row) (sym z) ∙ h))
 
@@ -89,16 +71,16 @@ door-after (door_is x ∷ es) d e = omega arith
 one_more : (es : List Entry) (e : Entry) → Sofar es → follows (last_turn es) (last_turn (e ∷ es)) ≡ true → entry_asked es e ≡ Ok tt → Sofar (e ∷ es)
 one_more es (nodes_are n h) so turn yes' =
     let none = first-nodes es n h turn in
-    let p = both_yes (to_study (nodes_asked n)) (head_asked n h) (deck-yes _ yes') in
+    let p = from_then (to_study (nodes_asked n)) (head_asked n h) (from-deck _ yes') in
     record {
       rows = ap (λ fs. rows_asked n 0 (branches_in fs)) none;
       few = subst (λ fs. length (branches_in fs) ≤ 64) (sym none) (omega arith);
-      counted_nodes = λ _. study-yes (nodes_asked n) p.0;
+      counted_nodes = λ _. from-study (nodes_asked n) p.0;
       some = λ h. absurd (omega arith);
     }
 one_more es (branch_is b) so turn yes' =
-    let p = both_yes (count_asked (length (branches_in es) + 1)) (row_asked (nodes_in es) (length (branches_in es)) b) (study-yes _ (deck-yes _ yes')) in
-    let q = and_parts (leb 1 (length (branches_in es) + 1)) (leb (length (branches_in es) + 1) 64) (asked-yes _ _ p.0) in
+    let p = from_then (count_asked (length (branches_in es) + 1)) (row_asked (nodes_in es) (length (branches_in es)) b) (from-study _ (from-deck _ yes')) in
+    let q = and_parts (leb 1 (length (branches_in es) + 1)) (leb (length (branches_in es) + 1) 64) (from-asked _ _ p.0) in
     let long = length_push (branches_in es) b in
     record {
       rows = rows-push (nodes_in es) 0 (branches_in es) b so.rows (let z : 0 + length (branches_in es) ≡ length (branches_in es) = omega arith in ap (λ i. row_asked (nodes_in es) i b) z ∙ p.1);
@@ -128,9 +110,9 @@ same_turn es working ns = refl
 same_turn es door ns = refl
 
 card-more : (es : List Entry) (c : Reading) (e : Entry) → Sofar es → card_after es c ≡ Ok e → Sofar (e ∷ es)
-card-more es unknown e so h = let z : ◌≡◌ {A = ℕ} 0 1 = cc in absurd (omega arith)
+card-more es unknown e so h = absurd cc
 card-more es (card k None) e so h =
-    let p = (from-turn (follows (last_turn es) (turn_of k)) (Err Numbers) Turn e h).1 in let z : ◌≡◌ {A = ℕ} 0 1 = cc in absurd (omega arith)
+    let p = (from-turn (follows (last_turn es) (turn_of k)) (Err Numbers) Turn e h).1 in absurd cc
 card-more es (card k (Some ns)) e so h =
     let p = from-turn (follows (last_turn es) (turn_of k)) _ _ e h in
     let q = from-entered (entry_of k ns) (entry_asked es (entry_of k ns)) e p.1 in
@@ -147,20 +129,16 @@ whole es so four =
 
 at-end : (es fs : List Entry) (refusal : DeckRefusal) → Sofar es → (b : Bool) → eqb (last_turn es) 4 ≡ b → cond b (Ok es) (Err refusal) ≡ Ok fs → Taken fs
 at-end es fs refusal so true p h = let q : es ≡ fs = cc in subst Taken q (whole es so (eqb-true _ _ p))
-at-end es fs refusal so false p h = let z : ◌≡◌ {A = ℕ} 0 1 = cc in absurd (omega arith)
-
-after : List Entry → List Reading → ℕ → Result Entry DeckFault → Result (List Entry) DeckRefusal
-after es cs n (Ok e) = read_cards (e ∷ es) cs
-after es cs n (Err f) = Err (refused f n)
+at-end es fs refusal so false p h = absurd cc
 
 step : (c : Reading) (cs : List Reading) → ((es fs : List Entry) → Sofar es → read_cards es cs ≡ Ok fs → Taken fs) → (es fs : List Entry) → Sofar es
-    → (r : Result Entry DeckFault) → card_after es c ≡ r → after es cs (length es + 1) r ≡ Ok fs → Taken fs
-unfolding after
+    → (r : Result Entry DeckFault) → card_after es c ≡ r → answer es cs (length es + 1) r ≡ Ok fs → Taken fs
+unfolding answer
 step c cs rest es fs so (Ok e) p h = rest (e ∷ es) fs (card-more es c e so p) h
-step c cs rest es fs so (Err f) p h = let z : ◌≡◌ {A = ℕ} 0 1 = cc in absurd (omega arith)
+step c cs rest es fs so (Err f) p h = absurd cc
 
 cards-taken : (cs : List Reading) (es fs : List Entry) → Sofar es → read_cards es cs ≡ Ok fs → Taken fs
-unfolding after
+unfolding answer
 cards-taken [] es fs so h = at-end es fs _ so (eqb (last_turn es) 4) refl h
 cards-taken (c ∷ cs) es fs so h = step c cs (cards-taken cs) es fs so (card_after es c) refl h
 
@@ -169,7 +147,7 @@ nothing = record { rows = refl; few = omega arith; counted_nodes = λ h. absurd 
 
 read_taken : (r : Answer DeckFault) (cs : List Reading) (es : List Entry) → read_if r cs ≡ Ok es → Taken es
 read_taken (Ok u) cs es h = cards-taken cs [] es nothing h
-read_taken (Err f) cs es h = let z : ◌≡◌ {A = ℕ} 0 1 = cc in absurd (omega arith)
+read_taken (Err f) cs es h = absurd cc
 
 pub accepted-is-taken : (bs : List ℕ) (places : ℕ) (es : List Entry) → read_bytes places bs ≡ Ok es → list_asked (nodes_in es) (branches_in es) ≡ Ok tt
 accepted-is-taken bs places es h = read_taken (bytes_asked places bs) (cards bs) es h

@@ -10,7 +10,7 @@ use Rattle.deck.specs.Decks.{Entry, last_turn, card_after, read_cards, read_if, 
 use Rattle.deck.proofs.Steps.{answer}
 
 not-ended : (b : Bool) (es : List Entry) (n : ℕ) (r : DeckRefusal) → cond b (Ok es) (Err (refused Turn n)) ≡ Err r → n ≡ r.line
-not-ended true es n r h = let z : ◌≡◌ {A = ℕ} 0 1 = cc in absurd (omega arith)
+not-ended true es n r h = absurd cc
 not-ended false es n r h = let e : refused Turn n ≡ r = cc in ap (λ x. x.line) e
 
 -- a refusal is at the next card or later
@@ -37,8 +37,8 @@ decided-step cs ds rest es r k (Err f) h at same = h
 decided : (cs : List Reading) → Decided cs
 unfolding answer Decided
 decided [] [] es r k h at same = h
-decided [] (d ∷ ds) es r k h at same = let z : ◌≡◌ {A = ℕ} 0 1 = cc in absurd (omega arith)
-decided (c ∷ cs) [] es r k h at same = let z : ◌≡◌ {A = ℕ} 0 1 = cc in absurd (omega arith)
+decided [] (d ∷ ds) es r k h at same = absurd cc
+decided (c ∷ cs) [] es r k h at same = absurd cc
 decided (c ∷ cs) (d ∷ ds) es r k h at same =
     let first : c ≡ d = cc in
     let more : take k cs ≡ take k ds = cc in
@@ -54,7 +54,7 @@ read-decided (Ok u) cs ds r h same =
 read-decided (Err f) cs ds r h same = h
 
 from-refused : (o : Result (List Entry) DeckRefusal) (r : DeckRefusal) → deck_read o ≡ Err r → o ≡ Err r
-from-refused (Ok es) r h = let z : ◌≡◌ {A = ℕ} 0 1 = cc in absurd (omega arith)
+from-refused (Ok es) r h = absurd cc
 from-refused (Err f) r h = let e : f ≡ r = cc in ap Err e
 
 pub up-to-the-line : (bs others : List ℕ) (places : ℕ) (r : DeckRefusal) → deck_read (read_bytes places bs) ≡ Err r → bytes_asked places others ≡ bytes_asked places bs → take r.line (cards others) ≡ take r.line (cards bs) → Err r ≡ deck_read (read_bytes places others)
@@ -62,5 +62,5 @@ up-to-the-line bs others places r h asks same =
     sym (ap deck_read (ap (λ a. read_if a (cards others)) asks ∙ read-decided (bytes_asked places bs) (cards bs) (cards others) r (from-refused (read_bytes places bs) r h) (sym same)))
 
 pub table_kept : (o : Result (List Entry) DeckRefusal) (table : List TableRow) (r : DeckRefusal) → deck_read o ≡ Err r → table_after o table ≡ table
-table_kept (Ok es) table r h = let z : ◌≡◌ {A = ℕ} 0 1 = cc in absurd (omega arith)
+table_kept (Ok es) table r h = absurd cc
 table_kept (Err f) table r h = refl

@@ -1,31 +1,15 @@
 -- One branch more, and one mark more, in a draft.
-use Rattle.std.proofs.Common.{◌≡◌, ℕ, zero, suc, ◌+◌, ◌<◌, List, [], ◌∷◌, ◌++◌, length, get_or, set, Ok, Result, sym, refl, ap, ◌∙◌, arith, length-set, Bor}
-use Rattle.std.proofs.lemmas.List.{length_push}
+use Rattle.std.proofs.Common.{◌≡◌, ℕ, zero, suc, ◌<◌, true, List, [], ◌∷◌, length, get_or, set, Ok, Result, sym, refl, ap, ◌∙◌, arith, length-set}
 use Rattle.std.proofs.lemmas.Bool.Decides.{nat_tests}
-use Rattle.arrayvec.specs.ArrayVec.{ArrayVec, array_vec_len, with_items}
-use Rattle.arrayvec.proofs.ArrayVecLemmas.{items-with_items}
-use Rattle.network.specs.Questions.{Answer, count_asked}
-use Rattle.network.specs.declared.branch.Condition.TheVariants.{Able, Failed, Working}
+use Rattle.arrayvec.specs.ArrayVec.{array_vec_len, with_item}
+use Rattle.network.specs.declared.branch.Condition.TheVariants.{Able}
 use Rattle.network.specs.declared.branch.TableRow.{TableRow}
 use Rattle.network.specs.declared.branch.Condition.{Condition}
-use Rattle.deck.specs.Decks.{Entry, branch_is, mark_is, marked, with_condition}
-use Rattle.deck.specs.Drafts.{Holds, Next, Takes, TakesMark, keyword_of, line_of, numbers_of, tail_words}
-use Rattle.deck.specs.declared.card.Card.{Card}
-use Rattle.deck.specs.declared.card.Card.TheVariants as cases
+use Rattle.deck.specs.Decks.{Entry, mark_is, last_turn, follows, marked, with_condition}
+use Rattle.deck.specs.Drafts.{Holds, Next}
 use Rattle.refusals.specs.declared.deck_fault.DeckFault.{DeckFault}
 use Rattle.deck.specs.declared.draft.Draft.{Draft}
-use Rattle.deck.specs.declared.draft.Section.TheVariants.{Branches, Marks}
-
-pub branch-put : (d : Draft) (es : List Entry) (b : TableRow) (rows : ArrayVec TableRow) → Holds d es → array_vec_len d.rows < 64 → rows.items ≡ d.rows.items ++ b ∷ [] →
-    Holds (record { section = Branches; nodes = d.nodes; head = d.head; door = d.door; rows = rows }) (branch_is b ∷ es)
-branch-put d es b rows h l e = record {
-  section = refl;
-  nodes = h.nodes;
-  head = h.head;
-  few = let n = ap length e ∙ length_push d.rows.items b in omega arith;
-  rows = e ∙ ap (λ bs. bs ++ b ∷ []) h.rows;
-  door = h.door;
-}
+use Rattle.deck.specs.declared.draft.Section.TheVariants.{Marks}
 
 -- a mark as a write at its place
 marked-set : (k : ℕ) (c : Condition) (bs : List TableRow) (x : TableRow) → k < length bs → marked k c bs ≡ set bs k (with_condition c (get_or bs k x))
@@ -42,32 +26,19 @@ length_marked (suc k) c (b ∷ bs) = ap suc (length_marked k c bs)
 abbrev pub blank : TableRow
 blank = record { from = 0; to = 0; mantissa = 0; exponent = 0; condition = Able }
 
--- the rows with another condition at k, written through the slice that shows them
-pub mark-put : (d : Draft) (es : List Entry) (k : ℕ) (c : Condition) (shown : List TableRow) → Holds d es → shown ≡ d.rows.items → k < array_vec_len d.rows →
-    Holds (record { section = Marks; nodes = d.nodes; head = d.head; door = d.door; rows = with_items d.rows (set shown k (with_condition c (get_or shown k blank))) }) (mark_is k c ∷ es)
-mark-put d es k c shown h same l =
-    let kept : length (set shown k (with_condition c (get_or shown k blank))) ≡ array_vec_len d.rows = length-set shown k _ ∙ ap length same in
-    let is = items-with_items d.rows (set shown k (with_condition c (get_or shown k blank))) kept in
-    record {
-      section = refl;
-      nodes = h.nodes;
-      head = h.head;
-      few = omega (arith, ap length is, kept, h.few);
-      rows = is ∙ ap (λ rows. set rows k (with_condition c (get_or rows k blank))) same ∙ sym (marked-set k c d.rows.items blank l) ∙ ap (marked k c) h.rows;
-      door = h.door;
-    }
+-- the rows with another condition at k, written through the row that is lent
+pub mark-put : (d : Draft) (es : List Entry) (k : ℕ) (c : Condition) (row : TableRow) → Holds d es → follows (last_turn es) 3 ≡ true → row ≡ get_or d.rows.items k row → k < array_vec_len d.rows →
+    Holds (record { section = Marks; nodes = d.nodes; head = d.head; door = d.door; rows = with_item d.rows k (with_condition c row) }) (mark_is k c ∷ es)
+mark-put d es k c row h turn is l = record {
+  section = refl;
+  nodes = h.nodes;
+  head = h.head;
+  few = omega (arith, length-set d.rows.items k (with_condition c row), h.few);
+  rows = ap (λ r. set d.rows.items k (with_condition c r)) is ∙ sym (marked-set k c d.rows.items row l) ∙ ap (marked k c) h.rows;
+  door = h.door;
+  shut = λ _. grind (arith, nat_tests);
+  opened = λ e. absurd (omega arith);
+}
 
 pub next-ok : (es : List Entry) (o : Result Entry DeckFault) (e : Entry) (d : Draft) → Holds d (e ∷ es) → o ≡ Ok e → Next es o (Ok tt) d
 next-ok es o e d h p = rw p (refl, h)
-
-pub room-left : (k : ℕ) (u : Unit {0}) → Ok u ≡ count_asked (k + 1) → k < 64
-room-left k u e = grind (arith, nat_tests)
-
--- FAILED and WORKING cards are marks
-pub failed-put : (before after : Draft) (found : Card) (line : ℕ) (numbers : Bor (List ℕ)) (r : Answer DeckFault) → found ≡ cases.Failed line numbers →
-    TakesMark before Failed (tail_words numbers.now) r after → Takes before (keyword_of found) (line_of found) (tail_words (numbers_of found)) r after
-failed-put before after found line numbers r e h = rw e (λ es holds at. h es holds)
-
-pub working-put : (before after : Draft) (found : Card) (line : ℕ) (numbers : Bor (List ℕ)) (r : Answer DeckFault) → found ≡ cases.Working line numbers →
-    TakesMark before Working (tail_words numbers.now) r after → Takes before (keyword_of found) (line_of found) (tail_words (numbers_of found)) r after
-working-put before after found line numbers r e h = rw e (λ es holds at. h es holds)

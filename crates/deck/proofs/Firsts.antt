@@ -1,5 +1,5 @@
 -- A deck is refused with the first of its questions that is answered no.
-use Rattle.std.proofs.Common.{◌≡◌, ℕ, ◌+◌, Bool, true, false, cond, ◌&&◌, leb, ltb, eqb, List, [], ◌∷◌, ◌++◌, length, Some, None, Option, Ok, Err, Result, sym, refl, ap, ◌∙◌, arith}
+use Rattle.std.proofs.Common.{◌≡◌, ℕ, ◌+◌, Bool, true, false, cond, ◌&&◌, leb, ltb, eqb, List, [], ◌∷◌, ◌++◌, length, Some, None, Option, Ok, Err, Result, sym, refl, ap, ◌∙◌}
 use Rattle.refusals.specs.declared.layer.Refusal.{Refusal}
 use Rattle.refusals.specs.declared.layer.Layer.TheVariants as layers
 use Rattle.refusals.specs.declared.deck_fault.DeckFault.{DeckFault}
@@ -81,8 +81,8 @@ line-first es (card k (Some ns)) =
 
 -- an accepted line enters what it says
 enters : (es : List Entry) (c : Reading) (e : Entry) → card_after es c ≡ Ok e → entry_on c ≡ Some e
-enters es unknown e h = let z : ◌≡◌ {A = ℕ} 0 1 = cc in absurd (omega arith)
-enters es (card k None) e h = let p : ◌≡◌ {A = Result Entry DeckFault} (counted es (entry_of k) None) (Ok e) = (from-turn (follows (last_turn es) (turn_of k)) _ Turn e h).1 in let z : ◌≡◌ {A = ℕ} 0 1 = cc in absurd (omega arith)
+enters es unknown e h = absurd cc
+enters es (card k None) e h = let p : ◌≡◌ {A = Result Entry DeckFault} (counted es (entry_of k) None) (Ok e) = (from-turn (follows (last_turn es) (turn_of k)) _ Turn e h).1 in absurd cc
 enters es (card k (Some ns)) e h = ap Some (from-entered (entry_of k ns) (entry_asked es (entry_of k ns)) e (from-turn _ _ _ e h).1).0
 
 -- line by line

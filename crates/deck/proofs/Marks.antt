@@ -1,5 +1,5 @@
 -- The last mark on a branch holds.
-use Rattle.std.proofs.Common.{◌≡◌, ℕ, zero, suc, List, [], ◌∷◌, ◌++◌, length, Some, refl, ap, ◌∙◌, ⊎_elim, arith}
+use Rattle.std.proofs.Common.{◌≡◌, ℕ, zero, suc, List, [], ◌∷◌, ◌++◌, length, Some, refl, ap, ◌∙◌, ⊎_elim}
 use Rattle.std.specs.List.{slice_get}
 use Rattle.std.proofs.lemmas.Bool.{cases_eq}
 use Rattle.network.specs.declared.branch.TableRow.{TableRow}
@@ -20,7 +20,7 @@ nth-other (suc j) zero c (row ∷ rows) ne = refl
 nth-other (suc j) (suc k) c (row ∷ rows) ne = nth-other j k c rows (λ e. ne (ap suc e))
 
 nth-same : (k : ℕ) (c : Condition) (rows : List TableRow) (row : TableRow) → slice_get rows k ≡ Some row → slice_get (marked k c rows) k ≡ Some (with_condition c row)
-nth-same k c [] row e = let z : ◌≡◌ {A = ℕ} 0 1 = cc in absurd (omega arith)
+nth-same k c [] row e = absurd cc
 nth-same zero c (first ∷ rows) row e = let is : first ≡ row = cc in ap (λ r. Some (with_condition c r)) is
 nth-same (suc k) c (first ∷ rows) row e = nth-same k c rows row e
 

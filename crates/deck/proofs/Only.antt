@@ -5,32 +5,27 @@ use Rattle.std.specs.List.{AllByRecursion}
 use Rattle.std.specs.Str.{all_ascii_digits}
 use Rattle.std.proofs.lemmas.List.{length_push}
 use Rattle.std.proofs.lemmas.Bool.{ltb-true, leb-true, and_parts, true≢false, false≢true}
-use Rattle.refusals.specs.declared.network_fault.NetworkFault.{NetworkFault}
-use Rattle.refusals.specs.declared.study_fault.StudyFault.{StudyFault}
 use Rattle.refusals.specs.declared.deck_fault.DeckFault.{DeckFault}
 use Rattle.refusals.specs.declared.deck_fault.DeckFault.TheVariants.{Numbers, Turn}
-use Rattle.network.specs.Questions.{Answer, asked, and_then, nodes_asked, count_asked, row_asked, head_asked}
+use Rattle.network.specs.Questions.{Answer, asked, nodes_asked, count_asked, row_asked, head_asked}
 use Rattle.network.specs.Ratings.{rating_fits}
 use Rattle.network.specs.declared.branch.TableRow.{TableRow}
 use Rattle.network.specs.declared.branch.Condition.{Condition}
 use Rattle.network.specs.declared.branch.Condition.TheVariants.{Able, Failed, Working}
 use Rattle.deck.specs.Words.{words, lines, number_of, numbers_in, prefixed}
 use Rattle.deck.specs.Cards.{Keyword, nodes, branch, failed, working, door, numbers_for, keyword_for, Reading, unknown, card, card_by, card_on, cards}
-use Rattle.deck.specs.Decks.{Entry, nodes_are, branch_is, mark_is, door_is, row_of, entry_of, entry_asked, nodes_in, branches_in, last_turn, turn_of, follows, to_study, to_deck, plan_asked, counted, card_after, read_cards, read_bytes, read_if, bytes_asked, refused}
+use Rattle.deck.specs.Decks.{Entry, nodes_are, branch_is, mark_is, door_is, row_of, entry_of, entry_asked, nodes_in, branches_in, last_turn, turn_of, follows, to_study, plan_asked, counted, card_after, read_cards, read_bytes, read_if, bytes_asked, refused}
 use Rattle.deck.specs.Laws.{Plan, SoundRow, SoundMark, Sound, nodes_card, branch_card, mark_card, door_card, plan_cards, written, Describes}
 use Rattle.deck.proofs.Drafts.{length_marked}
-use Rattle.deck.proofs.Steps.{answer, from-turn, from-entered, from-ended}
-use Rattle.deck.proofs.Texts.{Writable, shown, cards-text}
+use Rattle.deck.proofs.Steps.{answer, from-turn, from-entered, from-ended, from-asked, from_then, from-study, from-deck}
+use Rattle.deck.proofs.Texts.{Small, Writable, shown, cards-text}
 use Rattle.deck.proofs.Plans.{plan-writable, shown-parts}
 
 -- The numbers of a card fit 32 bits, and are as many as its word wants.
 
-abbrev Small : List ℕ → Type 0
-Small ns = AllByRecursion (λ n. n < 2 ^ 32) ns
-
 from-number : (b : Bool) (v n : ℕ) → cond b (Some v) None ≡ Some n → (b ≡ true) × (v ≡ n)
 from-number true v n h = (refl, cc)
-from-number false v n h = let z : ◌≡◌ {A = ℕ} 0 1 = cc in absurd (omega arith)
+from-number false v n h = absurd cc
 
 number_small : (w : List ℕ) (n : ℕ) → number_of w ≡ Some n → n < 2 ^ 32
 number_small w n h =
@@ -47,14 +42,14 @@ record Parted (o : Option ℕ) (p : Option (List ℕ)) (ns : List ℕ) : Type 0 
   is : n ∷ ms ≡ ns
 
 parted : (o : Option ℕ) (p : Option (List ℕ)) (ns : List ℕ) → prefixed o p ≡ Some ns → Parted o p ns
-parted None p ns h = let z : ◌≡◌ {A = ℕ} 0 1 = cc in absurd (omega arith)
-parted (Some n) None ns h = let z : ◌≡◌ {A = ℕ} 0 1 = cc in absurd (omega arith)
+parted None p ns h = absurd cc
+parted (Some n) None ns h = absurd cc
 parted (Some n) (Some ms) ns h = record { n = n; ms = ms; first = refl; more = refl; is = cc }
 
 numbers-proper : (k : ℕ) (ws : List (List ℕ)) (ns : List ℕ) → numbers_in k ws ≡ Some ns → (length ns ≡ k) × Small ns
 numbers-proper zero [] ns h = let e : [] ≡ ns = cc in subst (λ ms. (length ms ≡ 0) × Small ms) e (refl, tt)
-numbers-proper zero (w ∷ ws) ns h = let z : ◌≡◌ {A = ℕ} 0 1 = cc in absurd (omega arith)
-numbers-proper (suc k) [] ns h = let z : ◌≡◌ {A = ℕ} 0 1 = cc in absurd (omega arith)
+numbers-proper zero (w ∷ ws) ns h = absurd cc
+numbers-proper (suc k) [] ns h = absurd cc
 numbers-proper (suc k) (w ∷ ws) ns h =
     let p = parted (number_of w) (numbers_in k ws) ns h in
     let more = numbers-proper k ws p.ms p.more in
@@ -92,8 +87,8 @@ record Accepted (es : List Entry) (c : Reading) (cs : List Reading) (fs : List E
   next : read_cards (entry_of k ns ∷ es) cs ≡ Ok fs
 
 accepted-card : (es : List Entry) (c : Reading) (cs : List Reading) (fs : List Entry) (e : Entry) → card_after es c ≡ Ok e → read_cards (e ∷ es) cs ≡ Ok fs → Accepted es c cs fs
-accepted-card es unknown cs fs e p h = let z : ◌≡◌ {A = ℕ} 0 1 = cc in absurd (omega arith)
-accepted-card es (card k None) cs fs e p h = let q : Err Numbers ≡ Ok e = (from-turn (follows (last_turn es) (turn_of k)) (Err Numbers) Turn e p).1 in let z : ◌≡◌ {A = ℕ} 0 1 = cc in absurd (omega arith)
+accepted-card es unknown cs fs e p h = absurd cc
+accepted-card es (card k None) cs fs e p h = let q : Err Numbers ≡ Ok e = (from-turn (follows (last_turn es) (turn_of k)) (Err Numbers) Turn e p).1 in absurd cc
 accepted-card es (card k (Some ns)) cs fs e p h =
     let t = from-turn (follows (last_turn es) (turn_of k)) (counted es (entry_of k) (Some ns)) _ e p in
     let q = from-entered (entry_of k ns) (entry_asked es (entry_of k ns)) e t.1 in
@@ -102,29 +97,11 @@ accepted-card es (card k (Some ns)) cs fs e p h =
 accepted-step : (es : List Entry) (c : Reading) (cs : List Reading) (fs : List Entry) (o : Result Entry DeckFault) → card_after es c ≡ o → answer es cs (length es + 1) o ≡ Ok fs → Accepted es c cs fs
 unfolding answer
 accepted-step es c cs fs (Ok e) p h = accepted-card es c cs fs e p h
-accepted-step es c cs fs (Err f) p h = let z : ◌≡◌ {A = ℕ} 0 1 = cc in absurd (omega arith)
+accepted-step es c cs fs (Err f) p h = absurd cc
 
 accepted : (es : List Entry) (c : Reading) (cs : List Reading) (fs : List Entry) → read_cards es (c ∷ cs) ≡ Ok fs → Accepted es c cs fs
 unfolding answer
 accepted es c cs fs h = accepted-step es c cs fs (card_after es c) refl h
-
--- Questions that were answered yes.
-
-from-asked : {Fault : Type 0} (b : Bool) (f : Fault) → asked b f ≡ Ok tt → b ≡ true
-from-asked true f h = refl
-from-asked false f h = let z : ◌≡◌ {A = ℕ} 0 1 = cc in absurd (omega arith)
-
-from_then : {Fault : Type 0} (a b : Answer Fault) → and_then a b ≡ Ok tt → (a ≡ Ok tt) × (b ≡ Ok tt)
-from_then (Ok u) b h = (refl, h)
-from_then (Err f) b h = let z : ◌≡◌ {A = ℕ} 0 1 = cc in absurd (omega arith)
-
-from-study : (a : Answer NetworkFault) → to_study a ≡ Ok tt → a ≡ Ok tt
-from-study (Ok u) h = refl
-from-study (Err f) h = let z : ◌≡◌ {A = ℕ} 0 1 = cc in absurd (omega arith)
-
-from-deck : (a : Answer StudyFault) → to_deck a ≡ Ok tt → a ≡ Ok tt
-from-deck (Ok u) h = refl
-from-deck (Err f) h = let z : ◌≡◌ {A = ℕ} 0 1 = cc in absurd (omega arith)
 
 row-sound : (n k : ℕ) (row : TableRow) → row.condition ≡ Able → row_asked n k row ≡ Ok tt → SoundRow n row
 row-sound n k row able h =
@@ -226,10 +203,10 @@ mark-sound es b k c long marks h = record {
 }
 
 failed-marks : Failed ≡ Able → ⊥
-failed-marks e = let z : ◌≡◌ {A = ℕ} 0 1 = cc in omega arith
+failed-marks e = cc
 
 working-marks : Working ≡ Able → ⊥
-working-marks e = let z : ◌≡◌ {A = ℕ} 0 1 = cc in omega arith
+working-marks e = cc
 
 MarksRead : List Reading → Type 0
 MarksRead cs = (es fs : List Entry) (b : ℕ) → last_turn es ≡ 3 → length (branches_in es) ≡ b → AllByRecursion Proper cs → read_cards es cs ≡ Ok fs → MarksLeft b cs
@@ -319,9 +296,9 @@ row-case : (cs : List Reading) → RowsRead cs → (es fs : List Entry) (n b : �
     (k : Keyword) (ns : List ℕ) → Writable (k, ns) → follows (last_turn es) (turn_of k) ≡ true → entry_asked es (entry_of k ns) ≡ Ok tt → read_cards (entry_of k ns ∷ es) cs ≡ Ok fs → RowsLeft n b (card k (Some ns) ∷ cs)
 row-case cs rest es fs n b last r room proper nodes ns w turn asks h = absurd (not-next 2 1 es last refl turn)
 row-case cs rest es fs n b last r room proper branch ns w turn asks h = (branch-case cs rest es fs n b r proper ns w asks h).all
-row-case cs rest es fs n b last r room proper failed ns w turn asks h = no-more-rows n b _ room (mark-case cs (marks-only cs) es fs b 2 last refl r.long proper failed ns w turn asks h (λ e. let z : ◌≡◌ {A = ℕ} 0 1 = cc in omega arith))
-row-case cs rest es fs n b last r room proper working ns w turn asks h = no-more-rows n b _ room (mark-case cs (marks-only cs) es fs b 2 last refl r.long proper working ns w turn asks h (λ e. let z : ◌≡◌ {A = ℕ} 0 1 = cc in omega arith))
-row-case cs rest es fs n b last r room proper door ns w turn asks h = no-more-rows n b _ room (mark-case cs (marks-only cs) es fs b 2 last refl r.long proper door ns w turn asks h (λ e. let z : ◌≡◌ {A = ℕ} 0 1 = cc in omega arith))
+row-case cs rest es fs n b last r room proper failed ns w turn asks h = no-more-rows n b _ room (mark-case cs (marks-only cs) es fs b 2 last refl r.long proper failed ns w turn asks h (λ e. cc))
+row-case cs rest es fs n b last r room proper working ns w turn asks h = no-more-rows n b _ room (mark-case cs (marks-only cs) es fs b 2 last refl r.long proper working ns w turn asks h (λ e. cc))
+row-case cs rest es fs n b last r room proper door ns w turn asks h = no-more-rows n b _ room (mark-case cs (marks-only cs) es fs b 2 last refl r.long proper door ns w turn asks h (λ e. cc))
 
 rows-only : (cs : List Reading) → RowsRead cs
 unfolding RowsRead
@@ -394,7 +371,7 @@ whole-deck (c ∷ cs) fs proper g =
 
 read_whole : (r : Answer DeckFault) (cs : List Reading) (fs : List Entry) → AllByRecursion Proper cs → read_if r cs ≡ Ok fs → Whole cs
 read_whole (Ok u) cs fs proper g = whole-deck cs fs proper g
-read_whole (Err f) cs fs proper g = let z : ◌≡◌ {A = ℕ} 0 1 = cc in absurd (omega arith)
+read_whole (Err f) cs fs proper g = absurd cc
 
 pub some-plan : (bs : List ℕ) (places : ℕ) (fs : List Entry) → read_bytes places bs ≡ Ok fs → (plan : Plan) × Sound plan × Describes bs plan
 unfolding written

@@ -1,5 +1,5 @@
 -- The laws of the public calls.
-use Rattle.std.proofs.Common.{◌≡◌, ℕ, ◌≤◌, leb, List, [], ◌∷◌, ◌++◌, map, length, drop, Ok, Err, Result, sym, refl, ap, ◌∙◌, arith}
+use Rattle.std.proofs.Common.{◌≡◌, ℕ, ◌≤◌, leb, List, [], ◌∷◌, ◌++◌, map, length, drop, Ok, Err, Result, sym, refl, ap, ◌∙◌}
 use Rattle.std.specs.List.{slice_get}
 use Rattle.std.proofs.lemmas.Bool.{le-leb, eq-eqb, and_from}
 use Rattle.refusals.specs.declared.deck_fault.DeckRefusal.{DeckRefusal}
@@ -59,7 +59,7 @@ written-asked plan bs places is short room =
 -- an accepted deck is that of a sound plan
 from-read : (r : Result (List Entry) DeckRefusal) (deck : Deck) → deck_read r ≡ Ok deck → (fs : List Entry) × (r ≡ Ok fs)
 from-read (Ok fs) deck h = (fs, refl)
-from-read (Err f) deck h = let z : ◌≡◌ {A = ℕ} 0 1 = cc in absurd (omega arith)
+from-read (Err f) deck h = absurd cc
 
 pub only-plans : (bs : List ℕ) (places : ℕ) (deck : Deck) → deck_read (read_bytes places bs) ≡ Ok deck → (plan : Plan) × Sound plan × Describes bs plan
 only-plans bs places deck h = let r = from-read (read_bytes places bs) deck h in some-plan bs places r.0 r.1

@@ -19,7 +19,7 @@ lacks sep [] = true
 lacks sep (c ∷ cs) = cond (eqb c sep) false (lacks sep cs)
 
 lacks-parts : (b x : Bool) → cond b false x ≡ true → (b ≡ false) × (x ≡ true)
-lacks-parts true x h = let z : ◌≡◌ {A = ℕ} 0 1 = cc in absurd (omega arith)
+lacks-parts true x h = absurd cc
 lacks-parts false x h = (refl, h)
 
 lacks-append : (sep : ℕ) (a b : List ℕ) → lacks sep a ≡ true → lacks sep b ≡ true → lacks sep (a ++ b) ≡ true
@@ -60,7 +60,7 @@ last_word (c ∷ p) h =
     let more = last_word p q.1 in
     rw (e, more)
 
-abbrev Small : List ℕ → Type 0
+abbrev pub Small : List ℕ → Type 0
 Small ns = AllByRecursion (λ n. n < 2 ^ 32) ns
 
 words-spaced : (p ns : List ℕ) → Small ns → lacks 32 p ≡ true → words (p ++ spaced ns) ≡ p ∷ map decimal ns
@@ -92,7 +92,7 @@ numbers-back (n ∷ ns) s =
 -- the card of a line, and those of a text
 pub record Writable (c : Keyword × List ℕ) : Type 0 where
   pub count : length c.1 ≡ numbers_for c.0
-  pub small : AllByRecursion (λ n. n < 2 ^ 32) c.1
+  pub small : Small c.1
 
 abbrev pub shown : Keyword × List ℕ → Reading
 shown c = card c.0 (Some c.1)

@@ -1,5 +1,6 @@
 -- The lines of a deck, the words of a line, and the number that a word writes.
-use Rattle.std.specs.Prelude.{ℕ, zero, suc, cond, ◌&&◌, List, [], ◌∷◌, length, Some, None, Option, ◌==◌, nat_le}
+use Rattle.std.specs.Prelude.{ℕ, zero, suc, Bool, true, not, cond, ◌&&◌, List, [], ◌∷◌, length, Some, None, Option, ◌==◌, nat_le}
+use Rattle.std.specs.List.{take_while}
 use Rattle.std.specs.Str.Parse.{digits_value}
 use Rattle.std.specs.Str.{all_ascii_digits}
 
@@ -20,6 +21,20 @@ lines bs = cut_at 10 [] bs
 -- every space parts two words, so a line has one word more than spaces
 abbrev pub words : List ℕ → List (List ℕ)
 words bs = cut_at 32 ([] ∷ []) bs
+
+-- how many bytes stand before the first that is sep
+abbrev pub length_before : ℕ → List ℕ → ℕ
+length_before sep bs = length (take_while (λ c. not (c == sep)) bs)
+
+-- does a word end where these bytes begin? Then they are empty, or begin with a space
+abbrev pub ends_word : List ℕ → Bool
+ends_word [] = true
+ends_word (c ∷ cs) = c == 32
+
+-- the words that follow a word, from the space after it on
+abbrev pub tail_words : List ℕ → List (List ℕ)
+tail_words [] = []
+tail_words (c ∷ cs) = words cs
 
 -- 1 to 10 decimal digits, at most 4,294,967,295
 abbrev pub number_of : List ℕ → Option ℕ

@@ -2,19 +2,21 @@
 ghost use Rattle.std.specs.Prelude.{◌≡◌, MatchResult};
 ghost use Rattle.refusals.specs.declared.deck_fault.DeckFault.TheVariants.{Word};
 ghost use Rattle.deck.specs.Cards.{failed, working, door};
-ghost use Rattle.deck.specs.Drafts.{ends_word, Lacks, Titled, Untitled};
+ghost use Rattle.deck.specs.Words.{ends_word};
+ghost use Rattle.deck.specs.Drafts.{Lacks, Titled, Untitled};
 
 use crate::line::Line;
+use crate::operands::Operands;
 use refusals::deck_fault::DeckFault;
 
 // Each case holds the line's number and what follows its first word.
 #[derive(Clone, Copy, Debug)]
 pub(crate) enum Card<'a> {
-    Nodes { line: usize, numbers: &'a [u8] },
-    Branch { line: usize, numbers: &'a [u8] },
-    Failed { line: usize, numbers: &'a [u8] },
-    Working { line: usize, numbers: &'a [u8] },
-    Door { line: usize, numbers: &'a [u8] },
+    Nodes { line: usize, operands: Operands<'a> },
+    Branch { line: usize, operands: Operands<'a> },
+    Failed { line: usize, operands: Operands<'a> },
+    Working { line: usize, operands: Operands<'a> },
+    Door { line: usize, operands: Operands<'a> },
 }
 
 // Does a word end where these bytes begin?
@@ -36,15 +38,19 @@ fn mark_or_door(line: Line<'_>) -> Result<Card<'_>, DeckFault>
         bytes,
     } = line;
     match bytes {
-        [b'F', b'A', b'I', b'L', b'E', b'D', numbers @ ..] if ends_word(numbers) => Ok(
-            Card::Failed { line, numbers },
-        ),
-        [b'W', b'O', b'R', b'K', b'I', b'N', b'G', numbers @ ..] if ends_word(numbers) => Ok(
-            Card::Working { line, numbers },
-        ),
-        [b'D', b'O', b'O', b'R', numbers @ ..] if ends_word(numbers) => Ok(Card::Door {
+        [b'F', b'A', b'I', b'L', b'E', b'D', text @ ..] if ends_word(text) => Ok(Card::Failed {
             line,
-            numbers,
+            operands: Operands { text },
+        }),
+        [b'W', b'O', b'R', b'K', b'I', b'N', b'G', text @ ..] if ends_word(text) => Ok(
+            Card::Working {
+                line,
+                operands: Operands { text },
+            },
+        ),
+        [b'D', b'O', b'O', b'R', text @ ..] if ends_word(text) => Ok(Card::Door {
+            line,
+            operands: Operands { text },
         }),
         _ => Err(DeckFault::Word),
     }
@@ -59,16 +65,14 @@ pub(crate) fn card_of(line: Line<'_>) -> Result<Card<'_>, DeckFault>
 {
     let Line { number, bytes } = line;
     match bytes {
-        [b'N', b'O', b'D', b'E', b'S', numbers @ ..] if ends_word(numbers) => Ok(Card::Nodes {
+        [b'N', b'O', b'D', b'E', b'S', text @ ..] if ends_word(text) => Ok(Card::Nodes {
             line: number,
-            numbers,
+            operands: Operands { text },
         }),
-        [b'B', b'R', b'A', b'N', b'C', b'H', numbers @ ..] if ends_word(numbers) => Ok(
-            Card::Branch {
-                line: number,
-                numbers,
-            },
-        ),
+        [b'B', b'R', b'A', b'N', b'C', b'H', text @ ..] if ends_word(text) => Ok(Card::Branch {
+            line: number,
+            operands: Operands { text },
+        }),
         _ => mark_or_door(line),
     }
 }

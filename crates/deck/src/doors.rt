@@ -9,7 +9,6 @@ ghost use Rattle.deck.specs.Left.{doors_left};
 
 use crate::card::{Card, card_of};
 use crate::line::{Line, Lines};
-use crate::words::numbers;
 
 // Goes through the lines of a deck.
 #[derive(Clone, Copy, Debug)]
@@ -22,15 +21,11 @@ fn door_of(line: Line<'_>) -> Option<u32>
     ensures { result ≡ door_on (card_on (words line.entry.bytes.now)) }
 {
     match card_of(line) {
-        Ok(
-            Card::Door {
-                line: _,
-                numbers: words,
-            },
-        ) => {
-            let [door] = numbers::<1>(words)?;
+        Ok(Card::Door { line: _, operands }) => {
+            let [door] = operands.numbers::<1>()?;
             Some(door)
         }
+        // Stays two arms: a card of another kind, and a line that is no card.
         Ok(_) => None,
         Err(_) => None,
     }
@@ -56,6 +51,7 @@ impl<'a> Iterator for Doors<'a> {
     ghost remaining = { item_count doors_left };
 
     fn next(&mut self) -> Option<u32> {
+        // Stays a loop: the proof that `self.lines.find_map(door_of)` answers this takes a lemma longer than the loop.
         while let Some(line) = self.lines.next() {
             if let Some(door) = door_of(line) {
                 return Some(door);

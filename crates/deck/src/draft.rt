@@ -1,23 +1,25 @@
 // A deck as it is read, card by card.
-ghost use Rattle.std.specs.Prelude.{◌≡◌, ◌≤◌, true, [], ◌++◌, length, drop, ◌==◌};
+ghost use Rattle.std.specs.Prelude.{◌≡◌, ◌≤◌, true, [], ◌++◌, List, length, drop};
 ghost use Rattle.arrayvec.specs.ArrayVec.{array_vec_len};
 ghost use Rattle.network.specs.Questions.{asked};
 ghost use Rattle.refusals.specs.declared.deck_fault.DeckFault.TheVariants.{Turn};
 ghost use Rattle.deck.specs.Cards.{nodes as nodes_word, branch as branch_word, door as door_word};
-ghost use Rattle.deck.specs.Decks.{follows, plan_asked};
-ghost use Rattle.deck.specs.Drafts.{ends_word, tail_words, keyword_of, numbers_of, line_of, rank, Holds, Takes, TakesAnywhere, TakesMark, held_deck};
+ghost use Rattle.deck.specs.Decks.{Entry, follows, plan_asked};
+ghost use Rattle.deck.specs.Words.{tail_words};
+ghost use Rattle.deck.specs.Left.{words_left};
+ghost use Rattle.deck.specs.Drafts.{keyword_of, numbers_of, line_of, rank, Holds, Takes, TakesAnywhere, TakesMark, deck_held};
 
 use crate::card::Card;
+use crate::operands::Operands;
 use crate::reader::Deck;
-use crate::words::numbers;
 use arrayvec::ArrayVec;
 use network::branch::{Condition, TableRow};
 use network::questions::{check_branch_count, check_head, check_nodes, check_row};
 use refusals::deck_fault::DeckFault;
 use refusals::study_fault::StudyFault;
 
-// What the last card was.
-#[derive(Clone, Copy, Debug, PartialEq, Eq)]
+// What the last card was, in the order of a deck.
+#[derive(Clone, Copy, Debug, PartialEq, Eq, PartialOrd, Ord)]
 pub(crate) enum Section {
     Start,
     Nodes,
@@ -27,18 +29,19 @@ pub(crate) enum Section {
 }
 
 impl Section {
-    fn may_precede(self, next: Section) -> bool
-        ensures { result ≡ follows (rank self) (rank next) }
+    // May a card of that section come next?
+    fn check_turn(self, next: Section) -> Result<(), DeckFault>
+        ensures { result ≡ asked (follows (rank self) (rank next)) Turn }
     {
-        match self {
-            Section::Start => matches!(next, Section::Nodes),
-            Section::Nodes => matches!(next, Section::Branches),
-            Section::Branches => matches!(
-                next,
-                Section::Branches | Section::Marks | Section::Doors
-            ),
-            Section::Marks => matches!(next, Section::Marks | Section::Doors),
-            Section::Doors => matches!(next, Section::Doors),
+        let in_turn = match self {
+            Section::Start => next == Section::Nodes,
+            Section::Nodes => next == Section::Branches,
+            Section::Branches | Section::Marks | Section::Doors => self <= next,
+        };
+        if in_turn {
+            Ok(())
+        } else {
+            Err(DeckFault::Turn)
         }
     }
 }
@@ -51,13 +54,14 @@ fn check_plan(nodes: u32, head: u32) -> Result<(), StudyFault>
     check_head(nodes, head)
 }
 
-// The cards taken so far: the rows of the branches with their marks, and the line of the first door, 0 before there is one.
+// The cards taken so far: the rows of the branches with their marks, and the line of the first door.
+// Stays with plain numbers of nodes and head, 0 before their card: the section says whether they are known.
 #[derive(Drop)]
 pub(crate) struct Draft {
     section: Section,
     nodes: u32,
     head: u32,
-    door: u32,
+    door: Option<usize>,
     rows: ArrayVec<TableRow, 64>,
 }
 
@@ -69,19 +73,16 @@ impl Draft {
             section: Section::Start,
             nodes: 0,
             head: 0,
-            door: 0,
+            door: None,
             rows: ArrayVec::new(),
         }
     }
 
-    fn put_nodes(&mut self, words: &[u8]) -> Result<(), DeckFault>
-        requires { ends_word words.now ≡ true }
-        ensures { TakesAnywhere self.old nodes_word (tail_words words.now) result self.new }
+    fn put_nodes(&mut self, operands: Operands<'_>) -> Result<(), DeckFault>
+        ensures { TakesAnywhere self.old nodes_word (words_left operands.entry) result self.new }
     {
-        if !self.section.may_precede(Section::Nodes) {
-            return Err(DeckFault::Turn);
-        }
-        let [nodes, head] = numbers::<2>(words).ok_or(DeckFault::Numbers)?;
+        self.section.check_turn(Section::Nodes)?;
+        let [nodes, head] = operands.numbers::<2>().ok_or(DeckFault::Numbers)?;
         check_plan(nodes, head)?;
         self.section = Section::Nodes;
         self.nodes = nodes;
@@ -89,14 +90,11 @@ impl Draft {
         Ok(())
     }
 
-    fn put_branch(&mut self, words: &[u8]) -> Result<(), DeckFault>
-        requires { ends_word words.now ≡ true }
-        ensures { TakesAnywhere self.old branch_word (tail_words words.now) result self.new }
+    fn put_branch(&mut self, operands: Operands<'_>) -> Result<(), DeckFault>
+        ensures { TakesAnywhere self.old branch_word (words_left operands.entry) result self.new }
     {
-        if !self.section.may_precede(Section::Branches) {
-            return Err(DeckFault::Turn);
-        }
-        let [from, to, mantissa, exponent] = numbers::<4>(words).ok_or(DeckFault::Numbers)?;
+        self.section.check_turn(Section::Branches)?;
+        let [from, to, mantissa, exponent] = operands.numbers::<4>().ok_or(DeckFault::Numbers)?;
         let row = TableRow {
             from,
             to,
@@ -112,43 +110,29 @@ impl Draft {
         Ok(())
     }
 
-    fn put_mark(&mut self, words: &[u8], condition: Condition) -> Result<(), DeckFault>
-        requires { ends_word words.now ≡ true }
-        ensures { TakesMark self.old condition (tail_words words.now) result self.new }
+    fn put_mark(&mut self, operands: Operands<'_>, condition: Condition) -> Result<(), DeckFault>
+        ensures { TakesMark self.old condition (words_left operands.entry) result self.new }
     {
-        if !self.section.may_precede(Section::Marks) {
-            return Err(DeckFault::Turn);
-        }
-        let [k] = numbers::<1>(words).ok_or(DeckFault::Numbers)?;
-        let k = k as usize;
-        if k >= self.rows.len() {
-            return Err(DeckFault::Mark);
-        }
-        self.rows[k].condition = condition;
+        self.section.check_turn(Section::Marks)?;
+        let [k] = operands.numbers::<1>().ok_or(DeckFault::Numbers)?;
+        let row = self.rows.get_mut(k as usize).ok_or(DeckFault::Mark)?;
+        row.condition = condition;
         self.section = Section::Marks;
         Ok(())
     }
 
-    fn put_door(&mut self, line: usize, words: &[u8]) -> Result<(), DeckFault>
-        requires words { ends_word words.now ≡ true }
-        requires small { line ≤ 65536 }
-        ensures { Takes self.old door_word line (tail_words words.now) result self.new }
+    fn put_door(&mut self, line: usize, operands: Operands<'_>) -> Result<(), DeckFault>
+        ensures { Takes self.old door_word line (words_left operands.entry) result self.new }
     {
-        if !self.section.may_precede(Section::Doors) {
-            return Err(DeckFault::Turn);
-        }
-        let [_] = numbers::<1>(words).ok_or(DeckFault::Numbers)?;
-        if self.door == 0 {
-            self.door = line as u32;
-        }
+        self.section.check_turn(Section::Doors)?;
+        let [_] = operands.numbers::<1>().ok_or(DeckFault::Numbers)?;
+        self.door = self.door.or(Some(line));
         self.section = Section::Doors;
         Ok(())
     }
 
     // The next card of the deck.
     pub(crate) fn put(&mut self, card: Card<'_>) -> Result<(), DeckFault>
-        requires words { ends_word (numbers_of card) ≡ true }
-        requires small { line_of card ≤ 65536 }
         ensures { Takes
             self.old
             (keyword_of card.entry)
@@ -158,33 +142,24 @@ impl Draft {
             self.new }
     {
         match card {
-            Card::Nodes { line: _, numbers } => self.put_nodes(numbers),
-            Card::Branch { line: _, numbers } => self.put_branch(numbers),
-            Card::Failed { line: _, numbers } => self.put_mark(numbers, Condition::Failed),
-            Card::Working { line: _, numbers } => self.put_mark(numbers, Condition::Working),
-            Card::Door { line, numbers } => self.put_door(line, numbers),
+            Card::Nodes { line: _, operands } => self.put_nodes(operands),
+            Card::Branch { line: _, operands } => self.put_branch(operands),
+            Card::Failed { line: _, operands } => self.put_mark(operands, Condition::Failed),
+            Card::Working { line: _, operands } => self.put_mark(operands, Condition::Working),
+            Card::Door { line, operands } => self.put_door(line, operands),
         }
     }
 
-    // May the deck end here?
-    pub(crate) fn complete(&self) -> Result<(), DeckFault>
-        ensures { result ≡ asked (rank self.now.section == 4) Turn }
+    // The deck of these cards; it may not end before a door.
+    pub(crate) fn deck(&self) -> Result<Deck, DeckFault>
+        ensures { (es : List Entry) → Holds self.now es → result ≡ deck_held es }
     {
-        match self.section {
-            Section::Doors => Ok(()),
-            _ => Err(DeckFault::Turn),
-        }
-    }
-
-    pub(crate) fn deck(&self) -> Deck
-        ensures { result ≡ held_deck self.now }
-    {
-        Deck {
+        Ok(Deck {
             nodes: self.nodes,
             head: self.head,
             branches: self.rows.len() as u32,
-            door_line: self.door,
-        }
+            door_line: self.door.ok_or(DeckFault::Turn)?,
+        })
     }
 
     // Writes the rows into a table; its later places stay.

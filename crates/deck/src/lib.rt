@@ -5,5 +5,6 @@ mod card;
 pub mod doors;
 mod draft;
 mod line;
+mod operands;
 pub mod reader;
 mod words;

@@ -18,31 +18,28 @@ pub struct Deck {
     pub nodes: u32,
     pub head: u32,
     pub branches: u32,
-    pub door_line: u32,
+    pub door_line: usize,
 }
 
 // One line more in the draft.
 fn read_line(draft: &mut Draft, line: Line<'_>) -> Result<(), DeckFault>
-    requires { line.number ≤ 65536 }
     ensures { TakesLine draft.old line.entry.number line.entry.bytes.now result draft.new }
 {
     draft.put(card_of(line)?)
 }
 
-// The draft of all lines.
-fn read_lines(bytes: &[u8]) -> Result<Draft, DeckRefusal>
-    requires { length bytes.now ≤ 65536 }
+// The deck of all lines, and the draft that holds its rows.
+fn read_lines(bytes: &[u8]) -> Result<(Deck, Draft), DeckRefusal>
     ensures { ReadTo (read_cards [] (cards bytes.now)) result }
 {
     let mut draft = Draft::new();
     let mut lines = Lines::new(bytes);
+    // Stays a `while let`: after a `for` over `lines.by_ref()` a proof knows no longer where the lines ended.
     while let Some(line) = lines.next() {
-        let number = line.number as u32;
-        read_line(&mut draft, line).map_err(|fault| fault.at(number))?;
+        read_line(&mut draft, line).map_err(|fault| fault.at(line.number))?;
     }
-    let number = lines.number as u32;
-    draft.complete().map_err(|fault| fault.at(number))?;
-    Ok(draft)
+    let deck = draft.deck().map_err(|fault| fault.at(lines.number))?;
+    Ok((deck, draft))
 }
 
 // Has the table 64 places, and is the deck short enough and ended by a line's end?
@@ -59,8 +56,8 @@ fn check_bytes(bytes: &[u8], places: usize) -> Result<(), DeckFault>
 }
 
 // Reads a deck. Its branches are written into the table once the deck is accepted, and later places stay; a refusal leaves
-// the table as it was, and is that of the first question answered no. The deck of a plan gives the plan back, nothing else is accepted, and decks with the same cards are
-// answered alike.
+// the table as it was, and is that of the first question answered no. The deck of a plan gives the plan back, nothing else
+// is accepted, and decks with the same cards are answered alike.
 pub fn read_deck(bytes: &[u8], table: &mut [TableRow]) -> Result<Deck, DeckRefusal>
     ensures answer { result ≡ deck_read (read_bytes (length table.old) bytes.now) }
     ensures filled { table.new ≡ table_after (read_bytes (length table.old) bytes.now) table.old }
@@ -68,7 +65,7 @@ pub fn read_deck(bytes: &[u8], table: &mut [TableRow]) -> Result<Deck, DeckRefus
     ensures laws { DeckLaws bytes.now table.old result table.new }
 {
     check_bytes(bytes, table.len()).map_err(|fault| fault.at(0))?;
-    let draft = read_lines(bytes)?;
+    let (deck, draft) = read_lines(bytes)?;
     draft.fill(table);
-    Ok(draft.deck())
+    Ok(deck)
 }

@@ -4,8 +4,10 @@
 use sheet::description::describe;
 use std::fs;
 use std::io::{BufRead, BufReader};
+use std::rt::Files;
 
-fn describe_file(rt: &HostRuntime, name: &str) -> anyhow::Result<()> {
+// Stays beside `study_file` of the plans: that one keeps a study from file to file, which this has not.
+fn describe_file(rt: &(impl Files + Print + AllocGlobal), name: &str) -> anyhow::Result<()> {
     let bytes = fs::read(rt, name)?;
     let text = describe(rt.alloc(), &bytes)?;
     print!(rt; "FILE {name}\n{text}")?;
@@ -13,9 +15,7 @@ fn describe_file(rt: &HostRuntime, name: &str) -> anyhow::Result<()> {
 }
 
 fn main(rt: HostRuntime) -> anyhow::Result<()> {
-    for name in BufReader::new(rt.alloc(), rt.stdin())?.lines(rt.alloc()) {
-        let name = name?;
-        describe_file(&rt, name.as_str())?;
-    }
-    Ok(())
+    BufReader::new(rt.alloc(), rt.stdin())?
+        .lines(rt.alloc())
+        .try_for_each(|name| describe_file(&rt, name?.as_str()))
 }

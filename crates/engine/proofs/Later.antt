@@ -1,6 +1,7 @@
 -- From one point of a run to the next: what is added, what stays, and what is counted.
 use Rattle.std.proofs.Common.{◌≡◌, ℕ, zero, suc, ◌+◌, ◌≤◌, true, false, List, [], ◌∷◌, ◌++◌, map, set, Some, None, Ok, Err, fold, Option, sym, refl, ap, ◌∙◌, subst, inl, inr, append_assoc, append-nil, arith}
 use mathlib.Core.List.{map-append}
+use Rattle.std.proofs.Math.Seq.{map-set_same}
 use Rattle.std.proofs.lemmas.Bool.{cases_Bool}
 use Rattle.sets.proofs.Members.{clash}
 use Rattle.refusals.specs.declared.study_fault.StudyFault.{StudyFault}
@@ -25,18 +26,13 @@ finished-status Full e = absurd (clash refl e)
 finished-status More e = absurd (clash refl e)
 
 module _ (net : Net) (door : ℕ) where
-  same-sets : (rows : List Row) (i : ℕ) (x : Row) → branch_set net x ≡ branch_set net (row_at rows i) → map (branch_set net) (set rows i x) ≡ map (branch_set net) rows
-  same-sets [] i x e = refl
-  same-sets (r ∷ rows) zero x e = ap (λ c. c ∷ map (branch_set net) rows) e
-  same-sets (r ∷ rows) (suc i) x e = ap (λ l. branch_set net r ∷ l) (same-sets rows i x e)
-
   added : (rows : List Row) → map (branch_set net) (tried net door rows) ≡ map (branch_set net) rows ++ map (branch_set net) (written net door (row_at rows (current net rows)))
   unfolding tried barring branch_set
   added rows =
       let i = current net rows in
       let x = barring net (row_at rows i) in
       let w = written net door (row_at rows i) in
-      map-append (branch_set net) (set rows i x) w ∙ ap (λ l. l ++ map (branch_set net) w) (same-sets rows i x refl)
+      map-append (branch_set net) (set rows i x) w ∙ ap (λ l. l ++ map (branch_set net) w) (map-set_same (branch_set net) rows i x _ refl)
 
   -- the branch sets only grow in number
   adds : (k : ℕ) (s : Search) → (more : List ℕ) × (listed net (run net door k s) ≡ listed net s ++ more)
@@ -75,7 +71,7 @@ module _ (net : Net) (door : ℕ) where
   }
 
   halted : {t : Status} → t ≡ Finished → t ≡ More → ⊥
-  halted e m = let z : ◌≡◌ {A = ℕ} 0 1 = cc in omega arith
+  halted e m = cc
 
   later-run : (k : ℕ) (s : Search) → Later s (run net door k s)
   later-run k s = elim (cases_Bool (finished net door s)) [

@@ -1,4 +1,3 @@
-pub mod Listed
 pub mod Steps
 pub mod CutTests
 pub mod Later

@@ -1,8 +1,9 @@
 -- The law over runs.
-use Rattle.std.proofs.Common.{◌≡◌, ℕ, ◌+◌, ◌-◌, ◌*◌, ◌<◌, ◌≤◌, Bool, true, false, not, eqb, ltb, leb, List, [], ◌∷◌, ◌++◌, length, get_or, Some, None, Ok, Err, fold, Option, sym, refl, ap, ◌∙◌, ap₂, subst, arith}
+use Rattle.std.proofs.Common.{◌≡◌, ℕ, ◌+◌, ◌-◌, ◌*◌, ◌<◌, ◌≤◌, Bool, true, false, not, eqb, ltb, leb, List, [], ◌∷◌, length, get_or, Some, None, Ok, Err, fold, Option, sym, refl, ap, ◌∙◌, ap₂, subst, arith}
 use Rattle.std.specs.List.{ContainsAt as Has, AllByRecursion}
 use Rattle.std.proofs.ByRecursion.{All-from_get_or, has_get_or}
 use Rattle.std.proofs.lemmas.List.{length-map, get_or-map}
+use Rattle.std.proofs.lemmas.List.Sums.{fold-append}
 use Rattle.std.proofs.lemmas.Option.{slice_get-get_or, slice_get_past}
 use Rattle.std.proofs.lemmas.Bool.{ltb-true, le-leb, cond-true, eqb-false, not-true}
 use Rattle.refusals.specs.declared.study_fault.StudyFault.{StudyFault}
@@ -36,31 +37,17 @@ use Rattle.engine.specs.SoundRuns.{parts, Moment, WithinOneAim, state_at, search
 use Rattle.engine.proofs.CutTests.{cut-from, cut-able, cut_parts, grows, tells-cuts}
 use Rattle.engine.proofs.Later.{finished-status, Follows, follows, counted}
 
-folded-append : {A B : Type 0} (f : B → A → B) (n : B) (xs ys : List A) → fold f n (xs ++ ys) ≡ fold f (fold f n xs) ys
-folded-append f n [] ys = refl
-folded-append f n (x ∷ xs) ys = folded-append f (f n x) xs ys
-
--- an accepted set-up says that the head is a node, and forgets what was held
+-- an accepted set-up says that the head is a node
 accepted-head : (t : Bool) → asked t Head ≡ Ok tt → t ≡ true
 accepted-head true e = refl
-accepted-head false e = absurd (let z : ◌≡◌ {A = ℕ} 0 1 = cc in omega arith)
+accepted-head false e = cc
 
-pub head_below : (net : Net) (head : ℕ) → set_up_answer net head ≡ Ok tt → head < net.nodes
+head_below : (net : Net) (head : ℕ) → set_up_answer net head ≡ Ok tt → head < net.nodes
 head_below net head e = ltb-true head net.nodes (accepted-head (ltb head net.nodes) e)
-
-pub forgotten : (net : Net) (head : ℕ) → set_up_answer net head ≡ Ok tt → (s t : State) → set_up net head s ≡ set_up net head t
-forgotten net head e s t = ap (set_up_by head s) e ∙ sym (ap (set_up_by head t) e)
-
-same_some : {o : Option ℕ} {d e : ℕ} → o ≡ Some d → o ≡ Some e → d ≡ e
-same_some p q = cc
 
 next-tries : (net : Net) (door : ℕ) (s : Search) → status net door s.rows ≡ More → (next net door s).tries ≡ s.tries + 1
 unfolding next
 next-tries net door s e = rw (e, next) refl
-
--- the place of an element
-at_from_has : (xs : List ℕ) (x : ℕ) → Has xs x → (i : ℕ) × (i < length xs) × (get_or xs i 0 ≡ x)
-at_from_has xs x h = (h.0, h.1, h.2 0)
 
 module _ (net : Net) (legal : Legal net) (head : ℕ) (below : head < net.nodes) where
   -- what is known of a study at any time
@@ -207,7 +194,7 @@ module _ (net : Net) (legal : Legal net) (head : ℕ) (accepted : set_up_answer 
         let (Z, c, none) = full-misses legal known.0 search known.1 f in (
           Z,
           c,
-          λ h. let (i, l, e) = at_from_has sets Z h in let within : i < length rows = omega (arith, count) in none i within (sym (at i within) ∙ e),
+          λ h. let within : h.0 < length rows = omega (arith, count, h.1) in none h.0 within (sym (at h.0 within) ∙ h.2 0),
         )
 
     goes-on : status_at net head calls m ≡ More → (next net m.door search).tries ≡ search.tries + 1
@@ -224,13 +211,13 @@ module _ (net : Net) (legal : Legal net) (head : ℕ) (accepted : set_up_answer 
     last = after net head w.later.before
 
     leads : fold (called net) first w.between ≡ last
-    leads = sym (folded-append (called net) (set_up net head no_state) w.earlier.before w.between) ∙ ap (after net head) (sym w.follows)
+    leads = sym (fold-append (called net) (set_up net head no_state) w.earlier.before w.between) ∙ ap (after net head) (sym w.follows)
 
     pub on : Follows net w.earlier.door first last
     on = subst (Follows net w.earlier.door first) leads (follows net w.earlier.door w.between first w.earlier.aimed w.no_aim)
 
     pub same-door : w.later.door ≡ w.earlier.door
-    same-door = same_some w.later.aimed on.0
+    same-door = cc (w.later.aimed, on.0)
 
   pub lists-minimal-cuts : ListsMinimalCuts net head calls
   lists-minimal-cuts = record {

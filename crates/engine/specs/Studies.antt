@@ -76,10 +76,13 @@ aim_from net (Some head) door s = aimed_by net head door s (door_asked net head 
 
 -- Advance
 
+-- so many tries, with the rows and how the search stands
+abbrev pub progress_of : Net → ℕ → ℕ → List Row → Progress
+progress_of net door tries rows = record { tries = tries; rows = length rows; status = status net door rows }
+
 -- the tries made, the rows then written, and how the search stands
 abbrev pub progress : Net → ℕ → ℕ → Search → Progress
-progress net door budget s =
-    record { tries = (run net door budget s).tries - s.tries; rows = length (run net door budget s).rows; status = status net door (run net door budget s).rows }
+progress net door budget s = progress_of net door ((run net door budget s).tries - s.tries) (run net door budget s).rows
 
 abbrev pub advanced_by : Net → ℕ → ℕ → State → State
 advanced_by net door budget s = record { stage = s.stage; search = run net door budget s.search }
@@ -164,7 +167,7 @@ line_written net k buffer s = line_in buffer (show_answer net k s)
 
 abbrev pub standing_when : Net → Option ℕ → Search → Result Progress StudyFault
 standing_when net None s = Err NoAim
-standing_when net (Some door) s = Ok (record { tries = s.tries; rows = length s.rows; status = status net door s.rows })
+standing_when net (Some door) s = Ok (progress_of net door s.tries s.rows)
 
 abbrev pub standing_answer : Net → State → Result Progress StudyFault
 standing_answer net s = standing_when net (door_of s.stage) s.search

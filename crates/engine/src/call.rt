@@ -6,13 +6,13 @@ use chance::bounds::Bounds;
 use refusals::study_fault::StudyFault;
 
 // One of the two scales of a run.
-#[derive(Clone, Copy)]
+#[derive(Clone, Copy, Debug, PartialEq, Eq)]
 pub enum WhichScale {
     First,
     Second,
 }
 
-#[derive(Clone, Copy)]
+#[derive(Clone, Copy, Debug, PartialEq, Eq)]
 pub enum Call {
     // aim at this door
     Aim(u32),

@@ -12,13 +12,6 @@ use network::traits::RatedNetwork;
 use refusals::study_fault::StudyFault;
 use scale::Scale;
 
-// Asks for a rating, which every network answers with the promise that its branches and ratings belong to one network.
-fn ask_rating<N: RatedNetwork>(network: &N)
-    ensures { (N.RatedNetwork.rated network.now).plain ≡ N.Network.net network.now }
-{
-    let _ = network.rating(0);
-}
-
 // Hands a call to the study.
 fn answer_call<S: Scale, T: Scale, N: RatedNetwork>(
     study: &mut Study,
@@ -41,6 +34,7 @@ fn answer_call<S: Scale, T: Scale, N: RatedNetwork>(
 }
 
 // Makes one call on the study. A line goes into the buffer.
+// Stays a study, a network and a buffer side by side: each is lent by the caller, and no call keeps it.
 pub fn make_call<S: Scale, T: Scale, N: RatedNetwork>(
     study: &mut Study,
     network: &N,
@@ -52,7 +46,6 @@ pub fn make_call<S: Scale, T: Scale, N: RatedNetwork>(
     ensures line { buffer.new ≡ buffer_after_call (N.Network.net network.now) (state_of study.old) buffer.old call }
     ensures law { LeadsOnSoundly (N.RatedNetwork.rated network.now) S.Scale.arithmetic T.Scale.arithmetic call (state_of study.old) (state_of study.new) }
 {
-    ask_rating(network);
     answer_call::<S, T, N>(study, network, call, buffer)
 }
 
@@ -72,7 +65,6 @@ pub fn carry_out<S: Scale, T: Scale, N: RatedNetwork>(
     ensures kept_places { OnErr result (asked.new ≡ asked.old) }
     ensures kept_buffer { OnErr result (buffer.new ≡ buffer.old) }
 {
-    ask_rating(network);
     study.set_up(network, head)?;
     for place in asked.iter_mut() {
         place.answer = Some(make_call::<S, T, N>(study, network, place.call, buffer));
@@ -81,15 +73,11 @@ pub fn carry_out<S: Scale, T: Scale, N: RatedNetwork>(
 }
 
 // In every scale with numbers of type T, every list of calls lists minimal cuts and encloses the chance.
-pub fn every_run_is_sound<T>() -> bool
+pub fn every_run_is_sound<T>()
     ensures { EveryRunIsSound T }
-{
-    true
-}
+{}
 
 // Runs on the bridge, worked to the end.
-pub fn bridge_runs_hold<A, B>() -> bool
+pub fn bridge_runs_hold<A, B>()
     ensures { (first : Arithmetic A) (second : Arithmetic B) → BridgeRuns first second }
-{
-    true
-}
+{}

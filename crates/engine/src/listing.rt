@@ -1,17 +1,21 @@
-// The branch sets of rows, in listing order.
-ghost use Rattle.std.specs.Prelude.{◌≡◌, ◌≤◌, map, length, take};
-ghost use Rattle.search.specs.Search.{branch_set};
+// The cuts of rows, in listing order.
+ghost use Rattle.std.specs.Prelude.{◌≡◌, map};
+ghost use Rattle.search.specs.Tables.{rows_of};
+ghost use Rattle.search.specs.Listed.{row_cut};
 
+use arrayvec::ArrayVec;
+use network::cut::Cut;
 use network::traits::Network;
-use search::cut::branch_set_of;
-use search::row::Row;
+use search::cut::cut_of;
+use search::table::Table;
 
-// Writes the branch set of each row into its place.
-pub(crate) fn list_sets<N: Network>(network: &N, rows: &[Row], sets: &mut [u64])
-    requires { length rows.now ≤ length sets.old }
-    ensures { take (length rows.now) sets.new ≡ map (branch_set (N.net network.now)) rows.now }
+// The cut of each row.
+pub(crate) fn cuts_of<N: Network>(network: &N, table: &Table) -> ArrayVec<Cut, 512>
+    ensures { result.items ≡ map (row_cut (N.net network.now)) (rows_of table.now) }
 {
-    for (k, row) in rows.iter().enumerate() {
-        sets[k] = u64::from(branch_set_of(network, row));
+    let mut cuts = ArrayVec::new();
+    for row in table.rows() {
+        cuts.push(cut_of(network, row));
     }
+    cuts
 }

@@ -29,7 +29,7 @@ pub(crate) fn check_door<N: Network>(network: &N, head: u32, door: u32) -> Resul
 pub(crate) fn check_budget(budget: u32) -> Result<(), StudyFault>
     ensures { result ≡ budget_asked budget }
 {
-    if budget < 1 || budget > 10_000 {
+    if !(1..=10_000).contains(&budget) {
         return Err(StudyFault::Budget);
     }
     Ok(())

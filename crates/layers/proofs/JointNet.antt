@@ -1,25 +1,15 @@
 -- Two networks joined at a node.
-use Rattle.std.proofs.Common.{◌≡◌, ℕ, ◌+◌, ◌-◌, ◌<◌, ◌≤◌, true, false, map, length, None, sym, refl, ap, ◌∙◌, ap₂, arith}
+use Rattle.std.proofs.Common.{◌≡◌, ℕ, ◌-◌, ◌<◌, ◌≤◌, true, false, map, length, None, sym, refl, ap, ◌∙◌, ap₂, arith}
 use Rattle.std.specs.List.{slice_get}
-use Rattle.std.proofs.lemmas.List.{length-append, length-map}
 use Rattle.std.proofs.lemmas.Bool.{cond-true, cond-false}
-use Rattle.network.specs.Meaning.{Net, RatedNet, LegalRated, empty_net}
+use Rattle.network.specs.Meaning.{Net, RatedNet, LegalRated}
 use Rattle.layers.specs.Meaning.{moved, joint_fits, joint_net, joint_rated}
 use Rattle.sets.proofs.Nth.{nth-append-left, nth-append-right}
-
-pub joint-none : (j : ℕ) (p q : Net) → false ≡ joint_fits j p q → empty_net ≡ joint_net j p q
-joint-none j p q apart = sym (cond-false _ _ _ (sym apart))
 
 pub nth-joint-none : (j : ℕ) (p q : Net) (k : ℕ) → false ≡ joint_fits j p q → None ≡ slice_get (joint_net j p q).branches k
 nth-joint-none j p q k apart = rw (cond-false _ _ _ (sym apart)) refl
 
 module _ (j : ℕ) (p q : Net) (fits : true ≡ joint_fits j p q) where
-  pub nodes-joint : p.nodes + q.nodes - 1 ≡ (joint_net j p q).nodes
-  nodes-joint = rw (cond-true _ _ _ (sym fits)) refl
-
-  pub length-joint : length p.branches + length q.branches ≡ length (joint_net j p q).branches
-  length-joint = rw (cond-true _ _ _ (sym fits)) (simp (length-append, length-map))
-
   pub nth-joint-first : (k : ℕ) → k < length p.branches → slice_get p.branches k ≡ slice_get (joint_net j p q).branches k
   nth-joint-first k h = rw (cond-true _ _ _ (sym fits)) (sym (nth-append-left p.branches _ k h))
 

@@ -10,7 +10,7 @@ use Rattle.network.specs.declared.branch.Branch.{Branch}
 use Rattle.network.specs.declared.branch.Condition.{Condition}
 use Rattle.network.specs.Meaning.{Net, RatedNet, LegalRated}
 use Rattle.layers.specs.Meaning.{told, retold_at, retold, moved_node, moved, joint_fits, joint_net, joint_rated}
-use Rattle.layers.specs.Laws.{Marked, MarkedBranch, Joinable, Renumbered, Joined, JoinedCount, JoinedBranch, JoinedRating}
+use Rattle.layers.specs.Laws.{Marked, MarkedBranch, Joinable, Renumbered, Joined, JoinedBranch, JoinedRating}
 use Rattle.layers.specs.Legality.{length-retold_at, joinable-when}
 use Rattle.layers.proofs.Retold.{nth-retold_at}
 
@@ -61,14 +61,6 @@ joined-joint j p q = record {
         rw (cond-true _ _ _ fits) (rw (sym each) (nth-append-add r.ratings s.ratings k)),
       );
 }
-
-pub joined-nodes : (j : ℕ) (p q : Net) → JoinedCount j p q (p.nodes + q.nodes - 1) (joint_net j p q).nodes
-joined-nodes j p q =
-    let law = joined-joint j p q in record { both_are_counted = law.nodes_are_counted_once; else_there_is_none = λ none. ap (λ net. net.nodes) (law.else_it_is_empty none) }
-
-pub joined-branches : (j : ℕ) (p q : Net) → JoinedCount j p q (length p.branches + length q.branches) (length (joint_net j p q).branches)
-joined-branches j p q =
-    let law = joined-joint j p q in record { both_are_counted = law.every_branch_is_there; else_there_is_none = λ none. ap (λ net. length net.branches) (law.else_it_is_empty none) }
 
 pub joined-branch : (j : ℕ) (p q : Net) (k : ℕ) → JoinedBranch j p q k (slice_get (joint_net j p q).branches k)
 joined-branch j p q k =

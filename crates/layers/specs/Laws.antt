@@ -58,6 +58,12 @@ pub record JoinedCount (j : ℕ) (first second : Net) (both answer : ℕ) : Type
   pub both_are_counted : Joinable j first second → answer ≡ both
   pub else_there_is_none : (Joinable j first second → ⊥) → answer ≡ 0
 
+abbrev pub JoinedNodes : ℕ → Net → Net → ℕ → Type 0
+JoinedNodes j first second answer = JoinedCount j first second (first.nodes + second.nodes - 1) answer
+
+abbrev pub JoinedBranches : ℕ → Net → Net → ℕ → Type 0
+JoinedBranches j first second answer = JoinedCount j first second (length first.branches + length second.branches) answer
+
 -- what a joint at node j answers to k
 pub record JoinedBranch (j : ℕ) (first second : Net) (k : ℕ) (answer : Option Branch) : Type 0 where
   pub branches_of_the_first_stay : Joinable j first second → k < length first.branches → answer ≡ slice_get first.branches k

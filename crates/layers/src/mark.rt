@@ -1,5 +1,6 @@
 // Layers that tell one branch of the network below as failed or as working.
 ghost use Rattle.std.specs.Prelude.{◌≡◌, ◌==◌, if◌then◌else◌, length};
+ghost use Rattle.std.proofs.Common.{ap};
 ghost use Rattle.std.specs.List.{slice_get};
 ghost use Rattle.layers.specs.Laws.{Marked, MarkedBranch};
 ghost use Rattle.layers.specs.Meaning.{told, retold, retold_rated};
@@ -52,7 +53,7 @@ pub type Sure<N> = Told<N, AsWorking>;
 impl<N: Network, M: Mark> Told<N, M> {
     pub fn over(below: N, branch: u32) -> Told<N, M>
         ensures made { (result.below ≡ below) × (result.branch ≡ branch) }
-        ensures law { Marked M.CONDITION branch (N.Network.net below) (retold M.CONDITION result.branch (N.Network.net result.below)) }
+        ensures law { Marked M.CONDITION branch (N.Network.net below) (⟦<Told<N, M> as Network>⟧.net result) }
     {
         Told {
             below,
@@ -88,14 +89,14 @@ impl<N: Network, M: Mark> Network for Told<N, M> {
     }
 
     fn branches(&self) -> u32
-        ensures meaning { result ≡ length (retold M.CONDITION self.now.branch (N.Network.net self.now.below)).branches }
+        ensures meaning { result ≡ length (⟦<Told<N, M> as Network>⟧.net self.now).branches }
         ensures law { result ≡ length (N.Network.net self.now.below).branches }
     {
         self.below.branches()
     }
 
     fn branch(&self, k: u32) -> Option<Branch>
-        ensures meaning { result ≡ slice_get (retold M.CONDITION self.now.branch (N.Network.net self.now.below)).branches k }
+        ensures meaning { result ≡ slice_get (⟦<Told<N, M> as Network>⟧.net self.now).branches k }
         ensures law { MarkedBranch M.CONDITION self.now.branch k (slice_get (N.Network.net self.now.below).branches k) result }
     {
         self.below.branch(k).map(|b| self.tell(k, b))
@@ -107,9 +108,11 @@ impl<N: RatedNetwork, M: Mark> RatedNetwork for Told<N, M> {
 
     ghost legal = { λ s. legal-retold_rated M.CONDITION s.branch (N.RatedNetwork.rated s.below) (N.RatedNetwork.legal s.below) };
 
+    ghost same = { λ s. ap (retold M.CONDITION s.branch) (N.RatedNetwork.same s.below) };
+
     fn rating(&self, k: u32) -> Option<Rating>
         ensures answer { result ≡ slice_get (N.RatedNetwork.rated self.now.below).ratings k }
-        ensures same { (retold_rated M.CONDITION self.now.branch (N.RatedNetwork.rated self.now.below)).plain ≡ retold M.CONDITION self.now.branch (N.Network.net self.now.below) }
+        ensures same { (⟦<Told<N, M> as RatedNetwork>⟧.rated self.now).plain ≡ ⟦<Told<N, M> as Network>⟧.net self.now }
     {
         self.below.rating(k)
     }

@@ -1,14 +1,13 @@
 -- Two ratings of the same numbers are the same, and legal numbers are taken as they are.
-use Rattle.std.proofs.Common.{◌≡◌, ℕ, ◌≤◌, true, ltb, List, map, replicate, is_ok, Some, None, Option, sym, ap, ◌∙◌, inl, inr, arith}
+use Rattle.std.proofs.Common.{◌≡◌, ℕ, ◌≤◌, true, List, map, is_ok, Some, None, Option, sym, ap, ◌∙◌, arith}
 use mathlib.Core.HLevel.{is_prop→PathP}
 use native.Mathlib.Bridge.{le_prop}
 use Rattle.std.specs.List.{slice_get}
-use Rattle.std.specs.Bool.{then_some}
 use Rattle.std.specs.Option.{option_map, option_and_then}
-use Rattle.std.proofs.lemmas.Bool.{le-leb, and_from, cond-true, cases_lt, lt-ltb, le-ltb}
+use Rattle.std.proofs.lemmas.Bool.{le-leb, and_from, cond-true}
 use Rattle.network.specs.declared.rating.Rating.{Rating}
 use Rattle.network.specs.declared.branch.TableRow.{TableRow}
-use Rattle.sets.proofs.Nth.{nth-map, all-nth, nth-replicate, nth-replicate-past}
+use Rattle.sets.proofs.Nth.{nth-map, all-nth}
 use Rattle.network.specs.Ratings.{rating_from, checked_rating}
 use Rattle.network.specs.Meaning.{rating_of}
 use Rattle.network.specs.Questions.{rows_asked}
@@ -37,7 +36,3 @@ listed-rating n rows sound k None e = sym (nth-map rating_of rows k ∙ ap (opti
 listed-rating n rows sound k (Some row) e =
     let fits = (all-nth (Sound n) rows k row (all_sound n 0 rows sound) (sym e)).1 in
     cond-true _ _ _ fits ∙ sym (nth-map rating_of rows k ∙ ap (option_map rating_of) (sym e))
-
--- the rating of a branch of a ring
-pub ring-rating : (n k : ℕ) (r : Rating) → then_some (ltb k n) r ≡ slice_get (replicate n r) k
-ring-rating n k r = elim (cases_lt k n) [ inl h ↦ rw (lt-ltb k n h) (sym (nth-replicate n k r h)) | inr h ↦ rw (le-ltb k n h) (sym (nth-replicate-past n k r h)) ]

@@ -48,6 +48,10 @@ empty_net = record { nodes = 0; branches = [] }
 
 -- A list: the branches of a table.
 
+-- a row that stands where a table holds no branch
+abbrev pub blank_row : TableRow
+blank_row = record { from = 0; to = 0; mantissa = 0; exponent = 9; condition = Able }
+
 abbrev pub branch_of : TableRow → Branch
 branch_of row = record { from = row.from; to = row.to; condition = row.condition }
 

@@ -26,6 +26,8 @@ impl<'b, N: RatedNetwork> RatedNetwork for &'b N {
 
     ghost legal = { λ s. N.RatedNetwork.legal s.now };
 
+    ghost same = { λ s. N.RatedNetwork.same s.now };
+
     fn rating(&self, k: u32) -> Option<Rating> {
         (**self).rating(k)
     }

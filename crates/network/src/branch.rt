@@ -1,13 +1,13 @@
 // The parts of a network, and a row of the table from which a caller's network is made.
 ghost use Rattle.std.specs.Prelude.{◌≡◌, [], ◌∷◌, Some};
 ghost use Rattle.network.specs.Ratings.{checked_rating};
-ghost use Rattle.network.specs.Meaning.{branch_of, letter, branch_text};
+ghost use Rattle.network.specs.Meaning.{branch_of, blank_row, letter, branch_text};
 
 use crate::rating::Rating;
 use std::fmt;
 
 // Whether a branch can fail.
-#[derive(Clone, Copy)]
+#[derive(Clone, Copy, Debug, PartialEq, Eq)]
 pub enum Condition {
     // able to fail
     Able,
@@ -32,7 +32,7 @@ impl fmt::Display for Condition {
 }
 
 // A branch by its two ends, which may be the same node.
-#[derive(Clone, Copy)]
+#[derive(Clone, Copy, Debug, PartialEq, Eq)]
 pub struct Branch {
     pub from: u32,
     pub to: u32,
@@ -52,7 +52,7 @@ impl fmt::Display for Branch {
 }
 
 // A row of a caller's table: a branch and the two numbers of its rating, not yet checked.
-#[derive(Clone, Copy)]
+#[derive(Clone, Copy, Debug, PartialEq, Eq)]
 pub struct TableRow {
     pub from: u32,
     pub to: u32,
@@ -61,22 +61,23 @@ pub struct TableRow {
     pub condition: Condition,
 }
 
+// Stands in places of a table that hold no branch yet.
+// Stays by hand: a derived default would have exponent 0, which is in no rating.
 impl Default for TableRow {
+    ghost is_default = { λ row. row ≡ blank_row };
+
     fn default() -> TableRow {
-        TableRow::BLANK
+        TableRow {
+            from: 0,
+            to: 0,
+            mantissa: 0,
+            exponent: 9,
+            condition: Condition::Able,
+        }
     }
 }
 
 impl TableRow {
-    // Stands in places of a table that hold no branch yet.
-    pub const BLANK: TableRow = TableRow {
-        from: 0,
-        to: 0,
-        mantissa: 0,
-        exponent: 9,
-        condition: Condition::Able,
-    };
-
     // The rating, where its numbers are legal.
     pub fn rating(&self) -> Option<Rating>
         ensures { result ≡ checked_rating self.now.mantissa self.now.exponent }
@@ -84,6 +85,8 @@ impl TableRow {
         Rating::new(self.mantissa, self.exponent)
     }
 
+    // The branch without its rating.
+    // Stays a method: it takes a part of the row, where a conversion would say that the two are one thing.
     pub fn branch(&self) -> Branch
         ensures { result ≡ branch_of self.now }
     {

@@ -4,6 +4,7 @@
 pub mod borrowed;
 pub mod branch;
 pub mod branches;
+pub mod cut;
 pub mod list;
 pub mod questions;
 pub mod rating;

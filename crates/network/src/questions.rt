@@ -6,11 +6,12 @@ use crate::branch::TableRow;
 use refusals::network_fault::NetworkFault;
 use refusals::study_fault::StudyFault;
 
+// Stays a function for each question: one text for all would take number, limits and fault, and say no more than the test.
 // Are there 2 to 32 nodes?
 pub fn check_nodes(nodes: u32) -> Result<(), NetworkFault>
     ensures { result ≡ nodes_asked nodes }
 {
-    if nodes < 2 || nodes > 32 {
+    if !(2..=32).contains(&nodes) {
         return Err(NetworkFault::NodeCount);
     }
     Ok(())
@@ -20,7 +21,7 @@ pub fn check_nodes(nodes: u32) -> Result<(), NetworkFault>
 pub fn check_branch_count(branches: usize) -> Result<(), NetworkFault>
     ensures { result ≡ count_asked branches }
 {
-    if branches < 1 || branches > 64 {
+    if !(1..=64).contains(&branches) {
         return Err(NetworkFault::BranchCount);
     }
     Ok(())
@@ -33,9 +34,7 @@ pub fn check_row(nodes: u32, k: u32, row: &TableRow) -> Result<(), NetworkFault>
     if row.from >= nodes || row.to >= nodes {
         return Err(NetworkFault::BadEnd(k));
     }
-    if row.rating().is_none() {
-        return Err(NetworkFault::BadRating(k));
-    }
+    row.rating().ok_or(NetworkFault::BadRating(k))?;
     Ok(())
 }
 

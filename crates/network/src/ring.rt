@@ -1,5 +1,5 @@
 // A ring of nodes.
-ghost use Rattle.std.specs.Prelude.{◌≡◌, ◌≤◌, Ok, Err, MatchResult, IfOk};
+ghost use Rattle.std.specs.Prelude.{◌≡◌, refl, ◌≤◌, Ok, Err, MatchResult, IfOk};
 ghost use Rattle.refusals.specs.Questions.{first_no, refusal_of};
 ghost use Rattle.refusals.specs.Refusals.{network_refusal};
 ghost use Rattle.network.specs.Refusing.{ring_questions};
@@ -15,7 +15,7 @@ use crate::traits::{Network, RatedNetwork};
 use refusals::network_fault::NetworkFault;
 
 // n nodes and n branches with one rating: branch k joins k and k + 1, and the last joins n - 1 and 0.
-#[derive(Clone, Copy)]
+#[derive(Clone, Copy, Debug, PartialEq, Eq)]
 pub struct Ring {
     nodes: u32,
     rating: Rating,
@@ -70,6 +70,8 @@ impl RatedNetwork for Ring {
     ghost rated = { λ s. ring_rated s.nodes s.rating };
 
     ghost legal = { λ s. legal-ring_rated s.nodes s.rating s.few };
+
+    ghost same = { λ _. refl };
 
     fn rating(&self, k: u32) -> Option<Rating> {
         (k < self.nodes).then_some(self.rating)

@@ -32,10 +32,13 @@ pub trait RatedNetwork: Network {
     // Every branch has a rating.
     ghost legal: { (x : Self) → LegalRated (rated x) };
 
-    // The rating of branch k; a number at or past the count has no rating. Nodes and branches are those of `Network`.
+    // The rating of branch k; a number at or past the count has no rating.
     fn rating(&self, k: u32) -> Option<Rating>
         ensures answer { result ≡ slice_get (rated self.now).ratings k }
         ensures same { (rated self.now).plain ≡ Self.Network.net self.now };
+
+    // Nodes and branches are those of `Network`.
+    ghost same: { (x : Self) → (rated x).plain ≡ Self.Network.net x };
 }
 
 // The node count, with the limit that every network keeps.

@@ -2,12 +2,12 @@
 // second list, the node at which they are joined, the branch of the joint that is out, and the branch that is sure.
 #![tactic(auto)]
 
-ghost use Rattle.std.specs.Prelude.{◌≡◌, ℕ, ◌<◌, ◌≤◌, max, [], is_ok, if◌then◌else◌, slice_index_or};
+ghost use Rattle.std.specs.Prelude.{◌≡◌, ℕ, ◌<◌, ◌≤◌, max, min, take, [], is_ok, if◌then◌else◌, slice_index_or};
 ghost use Rattle.network.specs.Meaning.{empty_net, list_rated};
 ghost use Rattle.network.specs.Questions.{list_asked};
 ghost use Rattle.piles.specs.Rows.{row_of};
 
-use anyhow::anyhow;
+use anyhow::Context;
 use layers::joint::Joint;
 use layers::mark::{Out, Sure};
 use network::branch::{Condition, TableRow};
@@ -18,6 +18,7 @@ use refusals::layer::Refusal;
 use refusals::network_fault::NetworkFault;
 use sheet::network_text::NetworkText;
 use std::io::{BufRead, BufReader};
+use std::str::{FromStr, Split};
 
 const PLACES: usize = 70;
 
@@ -36,14 +37,15 @@ fn row(nodes: u32, k: u32, mantissa: u32, exponent: u32) -> TableRow
 }
 
 // The rows of a list, as many as a table has places.
+// Stays an array, of which a case takes the first: the list lends the rows, and a `Vec` could fail.
 fn rows(nodes: u32, mantissa: u32, exponent: u32) -> [TableRow; PLACES]
     requires { mantissa ≤ 1000000 }
     ensures { (k : ℕ) (d : TableRow) → k < 70 → slice_index_or result k d ≡ row_of (max nodes 1) k mantissa exponent }
 {
-    let mut table = [TableRow::BLANK; PLACES];
+    let mut table = [TableRow::default(); PLACES];
     let round = nodes.max(1);
-    for place in 0..PLACES {
-        table[place] = row(round, place as u32, mantissa, exponent);
+    for (k, place) in table.iter_mut().enumerate() {
+        *place = row(round, k as u32, mantissa, exponent);
     }
     table
 }
@@ -57,13 +59,13 @@ fn listed<'a>(nodes: u32, rows: &'a [TableRow]) -> List<'a>
     list
 }
 
-fn tell_refusal(rt: &HostRuntime, what: &str, fault: NetworkFault) -> anyhow::Result<()> {
+fn tell_refusal(rt: &impl Print, what: &str, fault: NetworkFault) -> anyhow::Result<()> {
     let Refusal { number, place, .. } = fault.into();
     println!(rt; "{what} REFUSED {number} PLACE {place}")?;
     Ok(())
 }
 
-fn tell_list(rt: &HostRuntime, nodes: u32, rows: &[TableRow]) -> anyhow::Result<()> {
+fn tell_list(rt: &impl Print, nodes: u32, rows: &[TableRow]) -> anyhow::Result<()> {
     let mut list = List::new();
     match list.fill(nodes, rows) {
         Ok(()) => Ok(()),
@@ -71,76 +73,100 @@ fn tell_list(rt: &HostRuntime, nodes: u32, rows: &[TableRow]) -> anyhow::Result<
     }
 }
 
-fn tell<N: RatedNetwork>(rt: &HostRuntime, network: &N) -> anyhow::Result<()> {
-    print!(rt; "{}", NetworkText { network, head: 0 })?;
-    Ok(())
+fn number(words: &mut Split<'_, char>) -> anyhow::Result<u32> {
+    let word = words.next().context("a case has seven numbers")?;
+    Ok(word.parse::<u32>()?)
 }
 
-fn tell_pile<P: RatedNetwork + Drop, Q: RatedNetwork + Drop>(
-    rt: &HostRuntime,
-    first: P,
-    second: Q,
-    [node, out, sure]: [u32; 3],
-) -> anyhow::Result<()> {
-    let pile = Sure::over(Out::over(Joint::at(first, second, node), out), sure);
-    tell(rt, &pile)
+// The nodes and branches of one list.
+#[derive(Clone, Copy)]
+struct Size {
+    nodes: u32,
+    branches: u32,
 }
 
-fn numbers(line: &str) -> anyhow::Result<[u32; 7]> {
-    let mut all = [0; 7];
-    let mut words = line.split(' ');
-    for number in all.iter_mut() {
-        let Some(word) = words.next() else {
-            return Err(anyhow!("a case has seven numbers"));
-        };
-        *number = word.parse::<u32>()?;
+impl Size {
+    fn read(words: &mut Split<'_, char>) -> anyhow::Result<Size> {
+        let nodes = number(words)?;
+        let branches = number(words)?;
+        Ok(Size { nodes, branches })
     }
-    Ok(all)
-}
 
-fn tell_ring<Q: RatedNetwork + Drop>(
-    rt: &HostRuntime,
-    [nodes, mantissa, exponent]: [u32; 3],
-    second: Q,
-    at: [u32; 3],
-) -> anyhow::Result<()> {
-    match Ring::new(nodes, mantissa, exponent) {
-        Ok(ring) => tell_pile(rt, ring, second, at),
-        Err(fault) => tell_refusal(rt, "RING", fault),
+    // As many of the rows as the list has branches, where there are so many.
+    fn first_of<'a>(self, rows: &'a [TableRow; PLACES]) -> &'a [TableRow]
+        ensures { result.now ≡ take (min self.branches 70) rows.now }
+    {
+        &rows[..(self.branches as usize).min(PLACES)]
     }
 }
 
-// The two lists joined; then a ring of the first list's numbers joined to the second list.
-fn tell_piles(
-    rt: &HostRuntime,
-    [n, b, m, c, node, out, sure]: [u32; 7],
-    first: &[TableRow],
-    second: &[TableRow],
-) -> anyhow::Result<()> {
-    tell_list(rt, n, first)?;
-    tell_list(rt, m, second)?;
-    tell_pile(rt, listed(n, first), listed(m, second), [node, out, sure])?;
-    tell_ring(rt, [n, b, c], listed(m, second), [node, out, sure])
+// Two lists, the node at which they are joined, the branch of the joint that is out, and the branch that is sure.
+#[derive(Clone, Copy)]
+struct Case {
+    first: Size,
+    second: Size,
+    node: u32,
+    out: u32,
+    sure: u32,
 }
 
-fn tell_case(rt: &HostRuntime, line: &str) -> anyhow::Result<()> {
+impl FromStr for Case {
+    type Err = anyhow::Error;
+
+    fn from_str(line: &str) -> Result<Case, anyhow::Error> {
+        let mut words = line.split(' ');
+        Ok(Case {
+            first: Size::read(&mut words)?,
+            second: Size::read(&mut words)?,
+            node: number(&mut words)?,
+            out: number(&mut words)?,
+            sure: number(&mut words)?,
+        })
+    }
+}
+
+impl Case {
+    fn tell_pile<P: RatedNetwork + Drop, Q: RatedNetwork + Drop>(
+        self,
+        rt: &impl Print,
+        first: P,
+        second: Q,
+    ) -> anyhow::Result<()> {
+        let joint = Joint::at(first, second, self.node);
+        let network = &Sure::over(Out::over(joint, self.out), self.sure);
+        print!(rt; "{}", NetworkText { network, head: 0 })?;
+        Ok(())
+    }
+
+    // A ring of the first list's numbers and the second list's branches, joined to the second list.
+    fn tell_ring<Q: RatedNetwork + Drop>(self, rt: &impl Print, second: Q) -> anyhow::Result<()> {
+        match Ring::new(self.first.nodes, self.first.branches, self.second.branches) {
+            Ok(ring) => self.tell_pile(rt, ring, second),
+            Err(fault) => tell_refusal(rt, "RING", fault),
+        }
+    }
+
+    // The two lists joined; then the ring.
+    fn tell(self, rt: &impl Print) -> anyhow::Result<()> {
+        let first_rows = rows(self.first.nodes, 1000, 9);
+        let second_rows = rows(self.second.nodes, 2000, 18);
+        let first_rows = self.first.first_of(&first_rows);
+        let second_rows = self.second.first_of(&second_rows);
+        let [n, m] = [self.first.nodes, self.second.nodes];
+        tell_list(rt, n, first_rows)?;
+        tell_list(rt, m, second_rows)?;
+        self.tell_pile(rt, listed(n, first_rows), listed(m, second_rows))?;
+        self.tell_ring(rt, listed(m, second_rows))
+    }
+}
+
+fn tell_case(rt: &impl Print, line: &str) -> anyhow::Result<()> {
     println!(rt; "CASE {line}")?;
-    let case = numbers(line)?;
-    let [n, b, m, c, _, _, _] = case;
-    let first = rows(n, 1000, 9);
-    let second = rows(m, 2000, 18);
-    tell_piles(
-        rt,
-        case,
-        &first[0..(b as usize).min(PLACES)],
-        &second[0..(c as usize).min(PLACES)],
-    )
+    line.parse::<Case>()?.tell(rt)
 }
 
 fn main(rt: HostRuntime) -> anyhow::Result<()> {
-    for line in BufReader::new(rt.alloc(), rt.stdin())?.lines(rt.alloc()) {
-        let line = line?;
-        tell_case(&rt, line.as_str())?;
-    }
-    Ok(())
+    BufReader::new(rt.alloc(), rt.stdin())?
+        .lines(rt.alloc())
+        .try_for_each(|line| tell_case(&rt, line?.as_str()))
 }

@@ -6,8 +6,13 @@ use engine::study::Study;
 use sheet::study_sheet::write_sheet;
 use std::fs;
 use std::io::{BufRead, BufReader};
+use std::rt::Files;
 
-fn study_file(rt: &HostRuntime, study: &mut Study, name: &str) -> anyhow::Result<()> {
+fn study_file(
+    rt: &(impl Files + Print + AllocGlobal),
+    study: &mut Study,
+    name: &str,
+) -> anyhow::Result<()> {
     let bytes = fs::read(rt, name)?;
     let mut text = String::new(rt.alloc());
     write_sheet(&mut text, study, &bytes)?;
@@ -17,9 +22,7 @@ fn study_file(rt: &HostRuntime, study: &mut Study, name: &str) -> anyhow::Result
 
 fn main(rt: HostRuntime) -> anyhow::Result<()> {
     let mut study = Study::new();
-    for name in BufReader::new(rt.alloc(), rt.stdin())?.lines(rt.alloc()) {
-        let name = name?;
-        study_file(&rt, &mut study, name.as_str())?;
-    }
-    Ok(())
+    BufReader::new(rt.alloc(), rt.stdin())?
+        .lines(rt.alloc())
+        .try_for_each(|name| study_file(&rt, &mut study, name?.as_str()))
 }

@@ -28,6 +28,7 @@ pub enum DeckFault {
     Mark,
 }
 
+// Stays by hand: what #[from] writes promises no case.
 impl From<StudyFault> for DeckFault {
     ghost from_gives = { λ fault r. r ≡ Study fault };
 
@@ -66,14 +67,15 @@ impl From<DeckFault> for Refusal {
 }
 
 // A fault with its line; line 0 where no line is at fault.
+// Stays a number with 0 for none: the rules print LINE 0 for a deck refused as a whole.
 #[derive(Clone, Copy, Debug, PartialEq, Eq)]
 pub struct DeckRefusal {
     pub fault: DeckFault,
-    pub line: u32,
+    pub line: usize,
 }
 
 impl DeckFault {
-    pub fn at(self, line: u32) -> DeckRefusal
+    pub fn at(self, line: usize) -> DeckRefusal
         ensures { result ≡ record { fault = self; line = line } }
     {
         DeckRefusal { fault: self, line }
@@ -83,6 +85,7 @@ impl DeckFault {
 impl error::Error for DeckRefusal {}
 
 // As the programs print it.
+// Stays by hand: a text that thiserror writes promises no bytes.
 impl fmt::Display for DeckRefusal {
     ghost output = { λ refusal. Some (refusal_text refusal) };
 

@@ -13,6 +13,7 @@ pub enum Layer {
 }
 
 // The number of the question, its layer, and the branch it is about, 0 where it is about none.
+// Stays numbers, and place 0 for none: the rules print these three figures of every refusal.
 #[derive(Clone, Copy, Debug, PartialEq, Eq)]
 pub struct Refusal {
     pub number: u32,

@@ -32,6 +32,7 @@ pub enum StudyFault {
     Buffer,
 }
 
+// Stays by hand: what #[from] writes promises no case.
 impl From<NetworkFault> for StudyFault {
     ghost from_gives = { λ fault r. r ≡ Network fault };
 

@@ -9,7 +9,7 @@ use Rattle.scale.specs.declared.worked_cases.WorkedCases.{WorkedCases}
 abbrev tenth : Rating
 tenth = record { mantissa = 100000000; exponent = 9; small = omega arith; least = omega arith; most = omega arith }
 
-pub record Worked (found : WorkedCases) : Type 0 where
+pub record ProductsAndDifferenceByHand (found : WorkedCases) : Type 0 where
   -- 1 / 10^9 times 0.1 in billionths
   pub down_is_0 : (billionths.times_down (held 1) tenth).units ≡ 0
   pub up_is_1 : (billionths.times_up (held 1) tenth).units ≡ 1

@@ -2,6 +2,9 @@
 ghost use Rattle.std.specs.Prelude.{◌≡◌, ℕ, ◌/◌, ◌^◌, ◌<◌, ◌≤◌};
 ghost use Rattle.scale.specs.Quotients.{ceil_div};
 
+use network::rating::Rating;
+
+// A table, since `pow` multiplies in a loop.
 const POWERS: [u64; 19] = [
     1,
     10,
@@ -24,14 +27,6 @@ const POWERS: [u64; 19] = [
     1_000_000_000_000_000_000,
 ];
 
-pub(crate) fn ten_to(exponent: u32) -> u64
-    requires { exponent ≤ 18 }
-    ensures power { result ≡ 10 ^ exponent }
-    ensures positive { 0 < result }
-{
-    POWERS[exponent as usize]
-}
-
 // n / d, rounded up. For a constant d this takes fewer steps than `div_ceil`.
 #[inline(always)]
 fn quotient_up(n: u64, d: u64) -> u64
@@ -42,50 +37,74 @@ fn quotient_up(n: u64, d: u64) -> u64
     if down * d < n { down + 1 } else { down }
 }
 
-// n over 10^places by `divide`: each arm has a constant divisor, which compiles to a multiplication.
-#[inline(always)]
-fn shifted<F: FnOnce(u64, u64) -> u64>(n: u64, places: u32, divide: F) -> u64
-    requires small { places ≤ 18 }
-    requires callable { (d : ℕ) → 0 < d → F.pre divide n d }
-    ensures { F.post divide n (10 ^ places) result }
-{
-    match places {
-        0 => divide(n, 1),
-        1 => divide(n, 10),
-        2 => divide(n, 100),
-        3 => divide(n, 1_000),
-        4 => divide(n, 10_000),
-        5 => divide(n, 100_000),
-        6 => divide(n, 1_000_000),
-        7 => divide(n, 10_000_000),
-        8 => divide(n, 100_000_000),
-        9 => divide(n, 1_000_000_000),
-        10 => divide(n, 10_000_000_000),
-        11 => divide(n, 100_000_000_000),
-        12 => divide(n, 1_000_000_000_000),
-        13 => divide(n, 10_000_000_000_000),
-        14 => divide(n, 100_000_000_000_000),
-        15 => divide(n, 1_000_000_000_000_000),
-        16 => divide(n, 10_000_000_000_000_000),
-        17 => divide(n, 100_000_000_000_000_000),
-        _ => divide(n, 1_000_000_000_000_000_000),
+// A power of ten that a u64 holds.
+#[derive(Clone, Copy)]
+pub(crate) struct PowerOfTen {
+    pub(crate) exponent: u32,
+    ghost small: { exponent ≤ 18 },
+}
+
+// The power under a rating.
+impl From<Rating> for PowerOfTen {
+    ghost from_gives = { λ by power. power.exponent ≡ by.exponent };
+
+    fn from(by: Rating) -> PowerOfTen {
+        PowerOfTen {
+            exponent: by.exponent,
+        }
     }
 }
 
-// n / 10^places, rounded down.
-#[inline(always)]
-pub(crate) fn shift_down(n: u64, places: u32) -> u64
-    requires { places ≤ 18 }
-    ensures { result ≡ n / 10 ^ places }
-{
-    shifted(n, places, |n, d| n / d)
-}
+impl PowerOfTen {
+    pub(crate) fn value(self) -> u64
+        ensures power { result ≡ 10 ^ self.exponent }
+        ensures positive { 0 < result }
+    {
+        POWERS[self.exponent as usize]
+    }
 
-// n / 10^places, rounded up.
-#[inline(always)]
-pub(crate) fn shift_up(n: u64, places: u32) -> u64
-    requires { places ≤ 18 }
-    ensures { result ≡ ceil_div n (10 ^ places) }
-{
-    shifted(n, places, |n, d| quotient_up(n, d))
+    // n over this power by `quotient`: each arm has a constant divisor, which compiles to a multiplication.
+    #[inline(always)]
+    fn divide<F: FnOnce(u64, u64) -> u64>(self, n: u64, quotient: F) -> u64
+        requires { (d : ℕ) → 0 < d → F.pre quotient n d }
+        ensures { F.post quotient n (10 ^ self.exponent) result }
+    {
+        match self.exponent {
+            0 => quotient(n, 1),
+            1 => quotient(n, 10),
+            2 => quotient(n, 100),
+            3 => quotient(n, 1_000),
+            4 => quotient(n, 10_000),
+            5 => quotient(n, 100_000),
+            6 => quotient(n, 1_000_000),
+            7 => quotient(n, 10_000_000),
+            8 => quotient(n, 100_000_000),
+            9 => quotient(n, 1_000_000_000),
+            10 => quotient(n, 10_000_000_000),
+            11 => quotient(n, 100_000_000_000),
+            12 => quotient(n, 1_000_000_000_000),
+            13 => quotient(n, 10_000_000_000_000),
+            14 => quotient(n, 100_000_000_000_000),
+            15 => quotient(n, 1_000_000_000_000_000),
+            16 => quotient(n, 10_000_000_000_000_000),
+            17 => quotient(n, 100_000_000_000_000_000),
+            _ => quotient(n, 1_000_000_000_000_000_000),
+        }
+    }
+
+    // n over this power, rounded down.
+    #[inline(always)]
+    pub(crate) fn divide_down(self, n: u64) -> u64
+        ensures { result ≡ n / 10 ^ self.exponent }
+    {
+        self.divide(n, |n, d| n / d)
+    }
+
+    // n over this power, rounded up.
+    #[inline(always)]
+    pub(crate) fn divide_up(self, n: u64) -> u64
+        ensures { result ≡ ceil_div n (10 ^ self.exponent) }
+    {
+        self.divide(n, |n, d| quotient_up(n, d))
+    }
 }

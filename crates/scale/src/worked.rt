@@ -2,7 +2,7 @@
 ghost use Rattle.scale.specs.Arithmetic.{OneNumberForEachValue};
 ghost use Rattle.scale.specs.Billionths.{billionths};
 ghost use Rattle.scale.specs.NineFigures.{nine_figures};
-ghost use Rattle.scale.specs.Worked.{Worked};
+ghost use Rattle.scale.specs.Worked.{ProductsAndDifferenceByHand};
 
 use crate::Scale;
 use crate::billionths::{Billionth, Billionths};
@@ -12,7 +12,7 @@ use network::rating::Rating;
 
 // What the two scales answer in the worked cases.
 pub fn work_cases() -> WorkedCases
-    ensures { Worked result }
+    ensures { ProductsAndDifferenceByHand result }
 {
     let tenth = Rating {
         mantissa: 100_000_000,
@@ -37,9 +37,7 @@ pub fn work_cases() -> WorkedCases
 }
 
 // In both scales equal values are equal numbers.
-pub fn equal_values_are_equal_numbers() -> bool
+pub fn equal_values_are_equal_numbers()
     ensures billionths { OneNumberForEachValue billionths }
     ensures figures { OneNumberForEachValue nine_figures }
-{
-    true
-}
+{}

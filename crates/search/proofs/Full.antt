@@ -28,9 +28,9 @@ length-tried net door rows =
 -- no search passes 512 rows
 
 no_more : (a b : Bool) → cond a (cond b Full More) Finished ≡ More → b ≡ false
-no_more true true e = let z : ◌≡◌ {A = ℕ} 0 1 = cc in absurd (omega arith)
+no_more true true e = cc
 no_more true false e = refl
-no_more false b e = let z : ◌≡◌ {A = ℕ} 0 1 = cc in absurd (omega arith)
+no_more false b e = cc
 
 fits : (n : ℕ) (w : Bool) → (leb 512 n && w) ≡ false → n ≤ 512 → n + cond w 1 0 ≤ 512
 fits n true e l = elim (cases_Bool (leb 512 n)) [ inl t ↦ absurd (true≢false (sym (ap (λ b. b && true) t) ∙ e)) | inr f ↦ let p = leb-false 512 n f in omega arith ]
@@ -51,9 +51,9 @@ run-room net door (suc k) s l = run-room net door k (next net door s) (by-status
 -- what FULL says
 full-parts : (a b c : Bool) → cond a (cond (b && c) Full More) Finished ≡ Full → (a ≡ true) × (b ≡ true) × (c ≡ true)
 full-parts true true true e = (refl, refl, refl)
-full-parts true true false e = let z : ◌≡◌ {A = ℕ} 0 1 = cc in absurd (omega arith)
-full-parts true false c e = let z : ◌≡◌ {A = ℕ} 0 1 = cc in absurd (omega arith)
-full-parts false b c e = let z : ◌≡◌ {A = ℕ} 0 1 = cc in absurd (omega arith)
+full-parts true true false e = cc
+full-parts true false c e = cc
+full-parts false b c e = cc
 
 module _ (net : Net) (door : ℕ) (rows : List Row) (e : status net door rows ≡ Full) where
   parts : (ltb (current net rows) (length rows) ≡ true) × (leb room (length rows) ≡ true) × (writes net door (row_at rows (current net rows)) ≡ true)

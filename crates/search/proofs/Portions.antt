@@ -61,8 +61,8 @@ run-counts net door (suc k) s = go (status net door s.rows) refl (run-counts net
     go : (t : Status) → status net door s.rows ≡ t
         → ((u : Search) → ((run net door k u).tries ≡ u.tries + k) ⊎ (((run net door k u).tries < u.tries + k) × (status net door (run net door k u).rows ≡ More → ⊥)))
         → Counts (run net door k (elim t [ Finished ↦ s | Full ↦ s | More ↦ made ]))
-    go Finished e h = halted (λ m. let z : ◌≡◌ {A = ℕ} 0 1 = cc in omega arith)
-    go Full e h = halted (λ m. let z : ◌≡◌ {A = ℕ} 0 1 = cc in omega arith)
+    go Finished e h = halted (λ m. cc)
+    go Full e h = halted (λ m. cc)
     go More e h = elim (h made) [ inl p ↦ inl (omega arith) | inr (p, q) ↦ inr (omega arith, q) ]
 
 same-cuts : (net : Net) (p q : Row) → p.inside ≡ q.inside → branch_set net p ≡ branch_set net q

@@ -94,11 +94,7 @@ unfolding node_vector
 node-vector-is net legal r A D a d = d ∙ others-is net.nodes A r.inside legal.nodes a
 
 turned : (a b c : Bool) → ((a && not b) && not c) ≡ (not b && not c && a)
-turned true true c = refl
-turned false true c = refl
-turned a false true = grind (arith, nat_tests)
-turned true false false = refl
-turned false false false = refl
+turned a b c = grind (arith, nat_tests)
 
 pub candidates-is : (net : Net) → Legal net → (r : Row) (T D E : ℕ) → T ≡ collect net.nodes (touches net (present net) r.inside)
     → D ≡ collect 32 (λ v. has T v && not (has r.inside v)) → E ≡ collect 32 (λ v. has D v && not (has r.barred v)) → E ≡ collect net.nodes (candidate net r)

@@ -51,7 +51,7 @@ pub more-open : (net : Net) (door : ℕ) (rows : List Row) → status net door r
 unfolding status
 more-open net door rows e = elim (cases_Bool (ltb (current net rows) (length rows))) [
   | inl t ↦ ltb-true (current net rows) (length rows) t
-  | inr t ↦ let q = sym (cond-false (ltb (current net rows) (length rows)) (cond (leb room (length rows) && writes net door (row_at rows (current net rows))) Full More) Finished t) ∙ e in let z : ◌≡◌ {A = ℕ} 0 1 = cc in absurd (omega arith)
+  | inr t ↦ let q = sym (cond-false (ltb (current net rows) (length rows)) (cond (leb room (length rows) && writes net door (row_at rows (current net rows))) Full More) Finished t) ∙ e in cc
 ]
 
 pub finished-shut : (net : Net) (door : ℕ) (rows : List Row) → status net door rows ≡ Finished → length rows ≤ current net rows
@@ -62,8 +62,8 @@ finished-shut net door rows e = elim (cases_Bool (ltb (current net rows) (length
       let b = leb room (length rows) && writes net door (row_at rows (current net rows)) in
       let q = sym (cond-true (ltb (current net rows) (length rows)) (cond b Full More) Finished t) ∙ e in
       elim (cases_Bool b) [
-        | inl u ↦ let w = sym (cond-true b Full More u) ∙ q in let z : ◌≡◌ {A = ℕ} 0 1 = cc in absurd (omega arith)
-        | inr u ↦ let w = sym (cond-false b Full More u) ∙ q in let z : ◌≡◌ {A = ℕ} 0 1 = cc in absurd (omega arith)
+        | inl u ↦ let w = sym (cond-true b Full More u) ∙ q in cc
+        | inr u ↦ let w = sym (cond-false b Full More u) ∙ q in cc
       ]
 ]
 

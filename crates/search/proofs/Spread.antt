@@ -1,11 +1,11 @@
 -- What `spread` reaches: each number with a chain to it, and all of them.
 use Rattle.std.proofs.Common.{◌≡◌, ℕ, zero, suc, ◌+◌, ◌^◌, ◌<◌, ◌≤◌, Bool, true, ◌||◌, ◌⊎◌, sym, refl, ◌∙◌, inl, inr, arith}
-use Rattle.std.proofs.lemmas.Bool.{cases_Bool, cases_lt, or_cases, or_left, or_right}
+use Rattle.std.proofs.lemmas.Bool.{cases_lt, or_cases, or_left, or_right}
 use Rattle.sets.specs.Masks.{count, has, ◌∈◌}
 use Rattle.search.specs.Cuts.{Chain, here, step}
 use Rattle.search.specs.Search.{widened, spread}
 use Rattle.search.proofs.Chains.{ends, kept}
-use Rattle.sets.proofs.Members.{clash, refuted, has-collect, collect-small, below-mask, same-mask, count-max, count-back}
+use Rattle.sets.proofs.Members.{has-collect, collect-small, below-mask, count-max, count-back}
 
 module _ (n : ℕ) (near : ℕ → ℕ → Bool) where
   pub widened_small : (S : ℕ) → widened n near S < 2 ^ n
@@ -87,13 +87,3 @@ module _ (n : ℕ) (near : ℕ → ℕ → Bool) where
     -- every closed set that has all of S has all that is reached
     pub spread-least : (r S T : ℕ) → ((v : ℕ) → v ∈ S → v ∈ T) → Closed T → (v : ℕ) → v ∈ spread n near r S → v ∈ T
     spread-least r S T h c v i = let (u, j, p) = spread-chain r S v i in ends (kept (λ x. x ∈ T) (λ x y _ _ l k. c x y k l) (h u j) p)
-
-    -- what a loop that adds one after another has come to, once nothing is near
-    pub spread-unique : (S T : ℕ) → T < 2 ^ n → ((v : ℕ) → v ∈ S → v ∈ T) → ((v : ℕ) → v ∈ T → v ∈ spread n near n S) → ((v : ℕ) → v < n → near T v ≡ true → v ∈ T) → S < 2 ^ n → T ≡ spread n near n S
-    spread-unique S T t sub within done s = same-mask n T (spread n near n S) t (spread-small n S s) (λ v l. elim (cases_Bool (has T v)) [
-      | inl i ↦ i ∙ sym (within v i)
-      | inr o ↦ o ∙ sym (refuted (λ p. clash o (spread-least n S T sub (λ x y i r. done y (bounded x y r).1 (near-in T x y i r)) v p)))
-    ])
-
-    pub spread-step : (S T v : ℕ) → v < n → ((x : ℕ) → x ∈ T → x ∈ spread n near n S) → near T v ≡ true → v ∈ spread n near n S
-    spread-step S T v l h t = let (u, i, r) = near-out T v t in spread-closed S u v (h u i) r

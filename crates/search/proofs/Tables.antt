@@ -1,9 +1,10 @@
 -- The rows of a table: how many they are, and one of them read or changed.
-use Rattle.std.proofs.Common.{◌≡◌, ℕ, ◌<◌, ◌≤◌, List, ◌++◌, length, get_or, take, drop, set, Some, None, sym, ap, ◌∙◌, ap₂, arith}
+use Rattle.std.proofs.Common.{◌≡◌, ℕ, ◌<◌, ◌≤◌, length, get_or, take, set, Some, sym, ap, ◌∙◌, ap₂, arith}
 use lib.Bits.{bit_or}
 use Rattle.std.specs.List.{slice_get}
-use Rattle.std.proofs.lemmas.List.{length-take-le, get_or-take, take-append-drop, set-append_left, take_at, length-set}
-use Rattle.std.proofs.lemmas.Option.{slice_get-get_or, slice_get_past}
+use Rattle.std.proofs.lemmas.List.{length-take-le, get_or-take}
+use Rattle.std.proofs.Math.Seq.{take-set-lt}
+use Rattle.std.proofs.lemmas.Option.{slice_get-get_or}
 use Rattle.sets.proofs.Nth.{nth-is}
 use Rattle.search.specs.declared.row.Row.{Row}
 use Rattle.search.specs.declared.table.Table.{Table}
@@ -19,14 +20,6 @@ length-rows t = length-take-le t.count t.rows (omega (arith, t.few, t.whole))
 pub few-rows : (t : Table) → length (rows_of t) ≤ room
 few-rows t = omega (arith, length-rows t, t.few)
 
--- a write below n is seen by the first n
-take-set-lt : {X : Type 0} (n : ℕ) (xs : List X) (i : ℕ) (x : X) → i < n → n ≤ length xs → take n (set xs i x) ≡ set (take n xs) i x
-take-set-lt n xs i x h l =
-    let ln : length (take n xs) ≡ n = length-take-le n xs l in
-    let whole : take n xs ++ drop n xs ≡ xs = take-append-drop n xs in
-    let moved : set (take n xs ++ drop n xs) i x ≡ set (take n xs) i x ++ drop n xs = set-append_left (take n xs) (drop n xs) i x (omega arith) in
-    ap (λ ys. take n (set ys i x)) (sym whole) ∙ ap (take n) moved ∙ take_at (set (take n xs) i x) (drop n xs) n (length-set (take n xs) i x ∙ ln)
-
 row_read : (t : Table) (k : ℕ) (d : Row) → k < t.count → get_or t.rows k d ≡ get_or (rows_of t) k d
 row_read t k d h = sym (get_or-take t.count t.rows k d h)
 
@@ -34,11 +27,6 @@ pub row-some : (t : Table) (k : ℕ) (d : Row) → k < length (rows_of t) → So
 row-some t k d h =
     let n : length (rows_of t) ≡ t.count = length-rows t in
     ap Some (row_read t k d (omega arith)) ∙ sym (slice_get-get_or (rows_of t) k d h)
-
-pub row-none : (t : Table) (k : ℕ) → t.count ≤ k → None ≡ slice_get (rows_of t) k
-row-none t k h =
-    let n : length (rows_of t) ≡ t.count = length-rows t in
-    sym (slice_get_past (rows_of t) k (omega arith))
 
 -- one row written with a node barred too
 module _ (t : Table) (k : ℕ) (h : k < length (rows_of t)) where
@@ -48,5 +36,5 @@ module _ (t : Table) (k : ℕ) (h : k < length (rows_of t)) where
   pub bar-written : (v m b : ℕ) (d d' : Row) → m ≡ single v → b ≡ bit_or (get_or t.rows k d').barred m
       → take t.count (set t.rows k (record { inside = (get_or t.rows k d).inside; barred = b })) ≡ barred_at k v (rows_of t)
   bar-written v m b d d' e w =
-      take-set-lt t.count t.rows k _ (omega (arith, length-rows t)) (omega (arith, t.few, t.whole))
+      take-set-lt t.count t.rows k _ (omega (arith, length-rows t))
       ∙ ap₂ (λ i b. set (rows_of t) k (record { inside = i; barred = b })) (ap (λ r. r.inside) (there d)) (w ∙ ap₂ (λ r n. bit_or r.barred n) (there d') e)

@@ -1,5 +1,5 @@
 -- One branch of a walk, one round, and rounds until nothing is added.
-use Rattle.std.proofs.Common.{◌≡◌, ℕ, zero, suc, ◌+◌, ◌-◌, ◌^◌, ◌<◌, ◌≤◌, Bool, true, false, cond, not, ◌&&◌, ◌||◌, eqb, ltb, Some, sym, refl, ap, ◌∙◌, ap₂, inl, inr, add-one, arith}
+use Rattle.std.proofs.Common.{◌≡◌, ℕ, zero, suc, ◌+◌, ◌-◌, ◌^◌, ◌<◌, ◌≤◌, Bool, true, false, not, ◌&&◌, ◌||◌, eqb, ltb, Some, sym, refl, ap, ◌∙◌, ap₂, inl, inr, add-one, arith}
 use mathlib.Core.Bool.{and-true, and_comm, or_comm}
 use lib.Bits.{bit_and, bit_or, and_le_r, or_lt}
 use Rattle.std.specs.List.{slice_get}
@@ -36,30 +36,16 @@ unfolding any
 any_none f = refl
 
 -- an end joined, where the other end is a member
-step_in : (t : Bool) (w O m v : ℕ) → v < 32 → m ≡ cond t (bit_or O (single w)) O → has m v ≡ ((eqb w v && t) || has O v)
-step_in true w O m v l e = ap (λ q. has q v) e ∙ has-or O (single w) v ∙ ap (λ t. has O v || t) (has-collect 32 (λ x. eqb x w) v l) ∙ turned
-  where
-    turned : (has O v || eqb v w) ≡ ((eqb w v && true) || has O v)
-    turned = grind (arith, nat_tests)
-step_in false w O m v l e = ap (λ q. has q v) e ∙ grind (arith, nat_tests)
+pub end_in : (w : ℕ) (t : Bool) → t ≡ true → single w ≡ collect 32 (λ v. eqb w v && t)
+end_in w t e = rw e (collect-same 32 _ _ (λ v l. grind (arith, nat_tests)))
 
-step_small : (t : Bool) (w O m : ℕ) → O < 2 ^ 32 → m ≡ cond t (bit_or O (single w)) O → m < 2 ^ 32
-step_small true w O m s e = rw e (or_lt 32 O (single w) s (collect-small 32 (λ x. eqb x w)))
-step_small false w O m s e = rw e s
+pub end_out : (w : ℕ) (t : Bool) → t ≡ false → 0 ≡ collect 32 (λ v. eqb w v && t)
+end_out w t e = rw e (is-collect 32 32 0 (λ v. eqb w v && false) (omega arith) (pow_pos 32) (λ v _. has-none v ∙ grind (arith, nat_tests)) (λ v _. has-none v))
 
-swapped : (a b c : Bool) → c ≡ false → (b || (a || c)) ≡ (a || b)
-swapped true true c e = refl
-swapped true false c e = refl
-swapped false true c e = refl
-swapped false false c e = e
-
-pub met_by : (b : Branch) (S O m m' : ℕ) → O ≡ 0 → m ≡ cond (has S b.to) (bit_or O (single b.from)) O → m' ≡ cond (has S b.from) (bit_or m (single b.to)) m → m' ≡ collect 32 (meets b S)
-met_by b S O m m' z e e' =
-    let small = step_small (has S b.from) b.to m m' (step_small (has S b.to) b.from O m (rw z (pow_pos 32)) e) e' in
-    is-collect 32 32 m' (meets b S) (omega arith) small
-    (λ v l. step_in (has S b.from) b.to m m' v l e' ∙ ap (λ t. (eqb b.to v && has S b.from) || t) (step_in (has S b.to) b.from O m v l e)
-    ∙ swapped (eqb b.from v && has S b.to) (eqb b.to v && has S b.from) (has O v) (ap (λ q. has q v) z ∙ has-none v))
-    (λ v l. within-mask 32 m' v small l)
+-- two sets united
+pub or-collect : (n : ℕ) (f g : ℕ → Bool) → bit_or (collect n f) (collect n g) ≡ collect n (λ v. g v || f v)
+or-collect n f g = same-mask n _ _ (or_lt n _ _ (collect-small n f) (collect-small n g)) (collect-small n _) (λ v l.
+    has-or (collect n f) (collect n g) v ∙ or_comm (has (collect n f) v) (has (collect n g) v) ∙ ap₂ ◌||◌ (has-collect n g v l) (has-collect n f v l) ∙ sym (has-collect n (λ v. g v || f v) v l))
 
 -- whether branch j may be used and joins v to a member of S
 abbrev pub joins : Over → Net → ℕ → ℕ → ℕ → Bool
@@ -71,11 +57,6 @@ met_of over net S k = collect 32 (λ v. any k (joins over net S v))
 
 pub met-none : (over : Over) (net : Net) (S : ℕ) → 0 ≡ met_of over net S 0
 met-none over net S = is-collect 32 32 0 (λ v. any 0 (joins over net S v)) (omega arith) (pow_pos 32) (λ v _. has-none v ∙ sym (any_none _)) (λ v _. has-none v)
-
--- two such sets united
-or-collect : (n : ℕ) (f g : ℕ → Bool) → bit_or (collect n f) (collect n g) ≡ collect n (λ v. g v || f v)
-or-collect n f g = same-mask n _ _ (or_lt n _ _ (collect-small n f) (collect-small n g)) (collect-small n _) (λ v l.
-    has-or (collect n f) (collect n g) v ∙ or_comm (has (collect n f) v) (has (collect n g) v) ∙ ap₂ ◌||◌ (has-collect n g v l) (has-collect n f v l) ∙ sym (has-collect n (λ v. g v || f v) v l))
 
 pub met-yes : (over : Over) (net : Net) (S k m j : ℕ) (b : Branch) → slice_get net.branches k ≡ Some b → carries over b.condition ≡ true
     → m ≡ met_of over net S k → j ≡ collect 32 (meets b S) → bit_or m j ≡ met_of over net S (k + 1)
@@ -110,16 +91,13 @@ pub nodes-mask : (net : Net) → Legal net → (n A : ℕ) → n ≡ net.nodes �
 nodes-mask net legal n A e a = a ∙ ap (λ q. collect 32 (λ v. ltb v q)) e ∙ sym (below-is 32 net.nodes legal.nodes)
 
 -- one round
-pub widen-is : (over : Over) (net : Net) → Legal net → (avoid S T D F n : ℕ) → T ≡ collect net.nodes (touches net (kept over net) S)
-    → D ≡ collect 32 (λ v. has T v && not (has avoid v)) → n ≡ net.nodes → F ≡ collect 32 (λ v. ltb v n)
+pub widen-is : (over : Over) (net : Net) → Legal net → (avoid S T D F : ℕ) → T ≡ collect net.nodes (touches net (kept over net) S)
+    → D ≡ collect 32 (λ v. has T v && not (has avoid v)) → F ≡ 2 ^ net.nodes - 1
     → bit_and (bit_or S D) F ≡ widened net.nodes (avoiding over net avoid) S
 unfolding widened
-widen-is over net legal avoid S T D F n t d e f = is-collect net.nodes net.nodes (bit_and (bit_or S D) F) (λ v. has S v || avoiding over net avoid S v) (omega arith) small inner
+widen-is over net legal avoid S T D F t d all = is-collect net.nodes net.nodes (bit_and (bit_or S D) F) (λ v. has S v || avoiding over net avoid S v) (omega arith) small inner
     (λ v h. within-mask net.nodes (bit_and (bit_or S D) F) v small h)
   where
-    all : F ≡ 2 ^ net.nodes - 1
-    all = nodes-mask net legal n F e f
-
     small : bit_and (bit_or S D) F < 2 ^ net.nodes
     small = omega (arith, and_le_r (bit_or S D) F, all, pow_pos net.nodes)
 

@@ -38,7 +38,8 @@ shown net door =
 abbrev pub finds : List (List ℕ) → List (List ℕ) → ℕ → Shown
 finds cuts vectors tries = record { cuts = map set_of cuts; vectors = map set_of vectors; tries = tries; is = Finished }
 
-pub record Worked : Type 0 where
+-- what each of six networks shows
+pub record SixNetworksSearched : Type 0 where
   pub crossed : shown (bridge Able) 3
       ≡ finds ((0 ∷ 1 ∷ []) ∷ (1 ∷ 2 ∷ 3 ∷ []) ∷ (0 ∷ 2 ∷ 4 ∷ []) ∷ (3 ∷ 4 ∷ []) ∷ []) ((1 ∷ 2 ∷ 3 ∷ []) ∷ (2 ∷ 3 ∷ []) ∷ (1 ∷ 3 ∷ []) ∷ (3 ∷ []) ∷ []) 3
   pub tied : shown (bridge Working) 3 ≡ finds ((0 ∷ 1 ∷ []) ∷ (3 ∷ 4 ∷ []) ∷ []) ((1 ∷ 2 ∷ 3 ∷ []) ∷ (3 ∷ []) ∷ []) 2

@@ -5,3 +5,5 @@ pub mod Tables
 pub mod Steps
 pub mod Cases
 pub mod Barred
+pub mod Words
+pub mod Listed

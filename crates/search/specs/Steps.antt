@@ -1,5 +1,5 @@
 -- Inner bookkeeping, which only the contracts of inner functions cite: walks by the branches that they use, a plan for the next try, and what it asks of the table.
-use Rattle.std.specs.Prelude.{◌≡◌, ℕ, ◌<◌, Bool, false, cond, not, ◌&&◌, ◌||◌, List, [], ◌∷◌, ◌++◌, Some, None, Option, bit_or}
+use Rattle.std.specs.Prelude.{◌≡◌, ℕ, ◌-◌, ◌^◌, ◌<◌, Bool, false, cond, not, ◌&&◌, ◌||◌, List, [], ◌∷◌, ◌++◌, Some, None, Ok, Err, Option, Result, length, bit_or, nat_lt}
 use Rattle.network.specs.declared.branch.Branch.{Branch}
 use Rattle.network.specs.declared.branch.Condition.{Condition}
 use Rattle.network.specs.Meaning.{Net}
@@ -10,11 +10,15 @@ use Rattle.search.specs.declared.status.Status.TheVariants.{Finished, Full, More
 use Rattle.search.specs.declared.reach.Over.{Over}
 use Rattle.search.specs.declared.reach.Over.TheVariants.{Present, Sure}
 use Rattle.search.specs.declared.plan.Try.{Try}
-use Rattle.search.specs.declared.plan.Next.{Next}
-use Rattle.search.specs.declared.plan.Next.TheVariants.{Finish, Fill, Go}
+use Rattle.search.specs.declared.plan.Halt.{Halt}
+use Rattle.search.specs.declared.plan.Halt.TheVariants as halts
 use Rattle.search.specs.Cuts.{branch, is_able, is_present, is_working}
 use Rattle.search.specs.Search.{single, share, touches, closure, row_at, open_row, lowest_candidate, current, room, status}
 use Rattle.search.specs.Tables.{barred_at}
+
+-- the set of all nodes
+abbrev pub all_nodes : Net → ℕ
+all_nodes net = 2 ^ net.nodes - 1
 
 -- whether a branch of this condition may be used
 abbrev pub carries : Over → Condition → Bool
@@ -37,6 +41,10 @@ parts K b = is_able b.condition && ((has K b.from && not (has K b.to)) || (has K
 abbrev pub Shut : Net → List Row → ℕ → Type 0
 Shut net rows first = (i : ℕ) → i < first → open_row net (row_at rows i) ≡ false
 
+-- the current row with its lowest candidate, if there is one
+abbrev pub first_open : Net → List Row → Option (ℕ × ℕ)
+first_open net rows = cond (nat_lt (current net rows) (length rows)) (Some (current net rows, lowest_candidate net (row_at rows (current net rows)))) None
+
 -- the row of a closure, where that holds none of the barred nodes
 abbrev pub clear_row : ℕ → ℕ → Option Row
 clear_row K barred = cond (share K barred) None (Some (record { inside = K; barred = barred }))
@@ -51,18 +59,18 @@ chosen net door rows =
     let r = row_at rows (current net rows) in
     record { row = current net rows; node = lowest_candidate net r; written = row_by net door r (lowest_candidate net r) }
 
-abbrev pub next_by : Try → Status → Next
-next_by t Finished = Finish
-next_by t Full = Fill
-next_by t More = Go t
+abbrev pub next_by : Try → Status → Result Try Halt
+next_by t Finished = Err halts.Finished
+next_by t Full = Err halts.Full
+next_by t More = Ok t
 
-abbrev pub planned : Net → ℕ → List Row → Next
+-- the next try, or why there is none
+abbrev pub planned : Net → ℕ → List Row → Result Try Halt
 planned net door rows = next_by (chosen net door rows) (status net door rows)
 
-abbrev pub status_by : Next → Status
-status_by Finish = Finished
-status_by Fill = Full
-status_by (Go t) = More
+abbrev pub status_at : Halt → Status
+status_at halts.Finished = Finished
+status_at halts.Full = Full
 
 abbrev pub listed : Option Row → List Row
 listed None = []

@@ -2,6 +2,7 @@
 ghost use Rattle.std.specs.Prelude.{◌≡◌};
 ghost use Rattle.search.specs.Search.{held, outside, closure};
 
+use crate::nodes::all_nodes;
 use crate::reach::{Over, reach};
 use network::traits::Network;
 use sets::set::NodeSet;
@@ -21,10 +22,11 @@ fn outside_of<N: Network>(network: &N, door: u32, set: NodeSet) -> NodeSet
 }
 
 // Every node without a chain to the door that avoids what the set holds; all nodes where it holds the door.
+// Stays a network beside a door: every call is passed the network, and a struct of both would be made anew in each.
 pub(crate) fn closure_of<N: Network>(network: &N, door: u32, set: NodeSet) -> NodeSet
     ensures { result ≡ closure (N.net network.now) door set }
 {
-    let all = NodeSet::below(network.nodes());
+    let all = all_nodes(network);
     let kept = held_by(network, set);
     if kept.contains(door) {
         return all;

@@ -1,26 +1,22 @@
-// The branch set and the node vector of a row.
+// The cut of a row: its branch set and its node vector.
 ghost use Rattle.std.specs.Prelude.{◌≡◌};
-ghost use Rattle.search.specs.Cuts.{is_able};
+ghost use Rattle.search.specs.Listed.{row_cut};
 ghost use Rattle.search.specs.Search.{branch_set, node_vector};
 ghost use Rattle.search.specs.Steps.{parts};
 
+use crate::nodes::all_nodes;
 use crate::row::Row;
 use network::branch::{Branch, Condition};
 use network::branches::branches_of;
+use network::cut::Cut;
 use network::traits::Network;
 use sets::set::{BranchSet, NodeSet};
-
-fn can_fail(condition: Condition) -> bool
-    ensures { result ≡ is_able condition }
-{
-    matches!(condition, Condition::Able)
-}
 
 // Whether b is able to fail and has exactly one end inside.
 fn is_parted(inside: NodeSet, b: Branch) -> bool
     ensures { result ≡ parts inside b }
 {
-    can_fail(b.condition) && inside.contains(b.from) != inside.contains(b.to)
+    b.condition == Condition::Able && inside.contains(b.from) != inside.contains(b.to)
 }
 
 // The branches able to fail with exactly one end inside.
@@ -30,7 +26,7 @@ pub fn branch_set_of<N: Network>(network: &N, row: &Row) -> BranchSet
     let mut set = BranchSet::new();
     for (k, b) in branches_of(network) {
         if is_parted(row.inside, b) {
-            set = set | BranchSet::single(k);
+            set.insert(k);
         }
     }
     set
@@ -40,5 +36,15 @@ pub fn branch_set_of<N: Network>(network: &N, row: &Row) -> BranchSet
 pub fn node_vector_of<N: Network>(network: &N, row: &Row) -> NodeSet
     ensures { result ≡ node_vector (N.net network.now) row.now }
 {
-    NodeSet::below(network.nodes()) - row.inside
+    all_nodes(network) - row.inside
+}
+
+// Both together.
+pub fn cut_of<N: Network>(network: &N, row: &Row) -> Cut
+    ensures { result ≡ row_cut (N.net network.now) row.now }
+{
+    Cut {
+        branches: branch_set_of(network, row),
+        nodes: node_vector_of(network, row),
+    }
 }

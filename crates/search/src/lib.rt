@@ -5,6 +5,7 @@ mod candidates;
 mod closure;
 pub mod cut;
 pub mod laws;
+mod nodes;
 mod plan;
 pub mod questions;
 mod reach;

@@ -1,8 +1,7 @@
 // What the search does next.
-ghost use Rattle.std.specs.Prelude.{◌≡◌, ◌&&◌, length, is_some, nat_le};
-ghost use Rattle.search.specs.Search.{current, room};
+ghost use Rattle.std.specs.Prelude.{◌≡◌};
 ghost use Rattle.search.specs.Tables.{rows_of};
-ghost use Rattle.search.specs.Steps.{Shut, clear_row, row_by, planned, status_by};
+ghost use Rattle.search.specs.Steps.{Shut, clear_row, first_open, row_by, planned, status_at};
 
 use crate::candidates::lowest_candidate;
 use crate::closure::closure_of;
@@ -20,39 +19,38 @@ pub(crate) struct Try {
     pub(crate) written: Option<Row>,
 }
 
-// Nothing, since no row has a candidate or no row more can be written; or a try.
-#[derive(Clone, Copy, Drop)]
-pub(crate) enum Next {
-    Finish,
-    Fill,
-    Go(Try),
+// Why no try can be made.
+#[derive(Clone, Copy, Debug, PartialEq, Eq, Drop)]
+pub(crate) enum Halt {
+    // no row has a candidate
+    Finished,
+    // the next try would write a row, and there is no room for one
+    Full,
 }
 
-impl Next {
-    pub(crate) fn status(self) -> Status
-        ensures { result ≡ status_by self }
-    {
-        match self {
-            Next::Finish => Status::Finished,
-            Next::Fill => Status::Full,
-            Next::Go(_) => Status::More,
+impl From<Halt> for Status {
+    ghost from_gives = { λ halt status. status ≡ status_at halt };
+
+    fn from(halt: Halt) -> Status {
+        match halt {
+            Halt::Finished => Status::Finished,
+            Halt::Full => Status::Full,
         }
     }
 }
 
-// The first row that has a candidate, where none of the first rows has one.
-fn current_row<N: Network>(table: &Table, network: &N, first: usize) -> usize
+// The first row that has a candidate, with its lowest one, where none of the first rows has any.
+fn first_try<N: Network>(table: &Table, network: &N, first: usize) -> Option<(usize, u32)>
     requires { Shut (N.net network.now) (rows_of table.now) first }
-    ensures { result ≡ current (N.net network.now) (rows_of table.now) }
+    ensures { result ≡ first_open (N.net network.now) (rows_of table.now) }
 {
-    for k in first..table.len() {
-        if let Some(row) = table.row(k) {
-            if lowest_candidate(network, &row).is_some() {
-                return k;
-            }
+    let rest = table.rows().get(first..)?;
+    for (i, row) in rest.iter().enumerate() {
+        if let Some(node) = lowest_candidate(network, row) {
+            return Some((first + i, node));
         }
     }
-    table.len()
+    None
 }
 
 // The row of a closure, unless that holds a barred node.
@@ -73,24 +71,20 @@ fn row_by<N: Network>(network: &N, door: u32, row: &Row, node: u32) -> Option<Ro
 }
 
 // The next try, where the first rows have no candidate.
-pub(crate) fn next_try<N: Network>(table: &Table, network: &N, door: u32, first: usize) -> Next
+// Stays a network beside a door: every call is passed the network, and a struct of both would be made anew in each.
+pub(crate) fn next_try<N: Network>(
+    table: &Table,
+    network: &N,
+    door: u32,
+    first: usize,
+) -> Result<Try, Halt>
     requires { Shut (N.net network.now) (rows_of table.now) first }
     ensures { result ≡ planned (N.net network.now) door (rows_of table.now) }
 {
-    let k = current_row(table, network, first);
-    let Some(row) = table.row(k) else {
-        return Next::Finish;
-    };
-    let Some(node) = lowest_candidate(network, &row) else {
-        return Next::Finish;
-    };
-    let written = row_by(network, door, &row, node);
+    let (row, node) = first_try(table, network, first).ok_or(Halt::Finished)?;
+    let written = row_by(network, door, &table.rows()[row], node);
     if written.is_some() && table.is_full() {
-        return Next::Fill;
+        return Err(Halt::Full);
     }
-    Next::Go(Try {
-        row: k,
-        node,
-        written,
-    })
+    Ok(Try { row, node, written })
 }

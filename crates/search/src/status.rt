@@ -1,4 +1,9 @@
 // How a search stands.
+ghost use Rattle.std.specs.Prelude.{Some};
+ghost use Rattle.search.specs.Words.{status_word};
+
+use std::fmt;
+
 #[derive(Clone, Copy, Debug, PartialEq, Eq)]
 pub enum Status {
     // no row has a candidate
@@ -7,4 +12,18 @@ pub enum Status {
     Full,
     // a try can be made
     More,
+}
+
+// The status in a word: FINISHED, FULL or MORE.
+impl fmt::Display for Status {
+    ghost output = { λ status. Some (status_word status) };
+
+    fn fmt<W: fmt::Write>(&self, f: &mut fmt::Formatter<W>) -> fmt::Result {
+        let word = match *self {
+            Status::Finished => "FINISHED",
+            Status::Full => "FULL",
+            Status::More => "MORE",
+        };
+        write!(f, "{word}")
+    }
 }

@@ -7,6 +7,7 @@ mod reading;
 mod writing;
 
 // At most 512 rows, in the order in which they were written.
+// Stays an array with a count beside it: the rules of the project fix a table of 512 row structs in a plain struct.
 #[derive(Drop)]
 pub struct Table {
     rows: [Row; 512],

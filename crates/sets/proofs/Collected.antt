@@ -1,7 +1,8 @@
 -- Members of the sets that the code makes.
 use Rattle.std.proofs.Common.{◌≡◌, ℕ, zero, suc, ◌-◌, ◌/◌, ◌%◌, ◌^◌, ◌<◌, ◌≤◌, Bool, not, ◌&&◌, ltb, sym, ap, ◌∙◌, inl, inr, arith}
-use lib.Bits.{bit_and, and_lt}
-use Rattle.std.proofs.lemmas.Nat.{pow_pos, pow_below}
+use lib.Bits.{bit_and}
+use Rattle.std.proofs.Math.Pow.{pow_mono}
+use Rattle.std.proofs.lemmas.Nat.{pow_pos, pow_below, and_le_l}
 use Rattle.std.proofs.lemmas.Bool.{cases_lt, lt-ltb, le-ltb, eq-eqb}
 use Rattle.std.proofs.lemmas.Bool.Decides.{nat_tests}
 use Rattle.sets.specs.Masks.{has, collect, ◌∉◌}
@@ -36,10 +37,10 @@ is-collect m n S f l s inner outer = same-mask m S (collect n f) s below (λ v k
       | inr h ↦ let e : n ≡ m = omega arith in let p = collect-small n f in rw (sym e) p
     ]
 
--- `a & !b`
-pub and-not : (k a b : ℕ) → a < 2 ^ k → b < 2 ^ k → bit_and a (2 ^ k - 1 - b) ≡ collect k (λ v. has a v && not (has b v))
-and-not k a b h l = same-mask k (bit_and a (2 ^ k - 1 - b)) (collect k (λ v. has a v && not (has b v))) (and_lt k a (2 ^ k - 1 - b) h (omega arith)) (collect-small k _)
-    (λ v m. has-and a (2 ^ k - 1 - b) v ∙ ap (λ t. has a v && t) (has-not k b v l m) ∙ sym (has-collect k (λ v. has a v && not (has b v)) v m))
+-- `a & !b` of two sets of k bits, in words of w bits
+pub and-not : (w k a b : ℕ) → k ≤ w → a < 2 ^ k → b < 2 ^ k → bit_and a (2 ^ w - 1 - b) ≡ collect k (λ v. has a v && not (has b v))
+and-not w k a b wide h l = same-mask k (bit_and a (2 ^ w - 1 - b)) (collect k (λ v. has a v && not (has b v))) (omega (arith, h, and_le_l)) (collect-small k _)
+    (λ v m. has-and a (2 ^ w - 1 - b) v ∙ ap (λ t. has a v && t) (has-not w b v (omega (arith, l, pow_mono wide)) (omega arith)) ∙ sym (has-collect k (λ v. has a v && not (has b v)) v m))
 
 -- a member below the bound of the set
 pub within-mask : (n S v : ℕ) → S < 2 ^ n → n ≤ v → v ∉ S

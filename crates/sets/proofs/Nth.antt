@@ -1,9 +1,8 @@
 -- What stands at a place of a list, as an Option.
-use Rattle.std.proofs.Common.{◌≡◌, ℕ, zero, suc, ◌+◌, ◌-◌, ◌<◌, ◌≤◌, List, [], ◌∷◌, ◌++◌, map, length, get_or, take, drop, replicate, IfSome, Some, None, fold, Option, sym, refl, ap, ◌∙◌, subst, suc-add, arith}
+use Rattle.std.proofs.Common.{◌≡◌, ℕ, zero, suc, ◌+◌, ◌-◌, ◌<◌, ◌≤◌, List, [], ◌∷◌, ◌++◌, map, length, get_or, take, drop, IfSome, Some, None, fold, Option, sym, refl, ap, ◌∙◌, subst, suc-add, arith}
 use Rattle.std.specs.List.{slice_get, range_with_len, AllByRecursion}
 use Rattle.std.specs.Option.{option_map}
 use Rattle.std.proofs.lemmas.List.FromFn.{length-map-range_with_len, get_or-map-range_with_len}
-use Rattle.std.proofs.lemmas.List.{get_or-replicate, length-replicate}
 use Rattle.std.proofs.lemmas.List.Sums.{fold_push}
 use Rattle.std.proofs.lemmas.Option.{slice_get-get_or, slice_get_past}
 
@@ -37,13 +36,6 @@ nth-map-counting f n k h =
 
 pub nth-map-counting-past : {X : Type 0} (f : ℕ → X) (n k : ℕ) → n ≤ k → slice_get (map f (range_with_len 0 n)) k ≡ None
 nth-map-counting-past f n k h = slice_get_past (map f (range_with_len 0 n)) k (rw length-map-range_with_len h)
-
-pub nth-replicate : {X : Type 0} (n k : ℕ) (x : X) → k < n → slice_get (replicate n x) k ≡ Some x
-nth-replicate n k x h =
-    slice_get-get_or (replicate n x) k x (rw length-replicate h) ∙ ap Some (get_or-replicate n k x x h)
-
-pub nth-replicate-past : {X : Type 0} (n k : ℕ) (x : X) → n ≤ k → slice_get (replicate n x) k ≡ None
-nth-replicate-past n k x h = slice_get_past (replicate n x) k (rw length-replicate h)
 
 -- what holds of each element holds of the one at k
 pub all-nth : {X : Type 0} (P : X → Type 0) (xs : List X) (k : ℕ) (x : X) → AllByRecursion P xs → slice_get xs k ≡ Some x → P x

@@ -1,28 +1,16 @@
 -- The same sets and searches as loops and shifts make them.
-use Rattle.std.proofs.Common.{◌≡◌, ℕ, suc, ◌+◌, ◌/◌, ◌^◌, ◌<◌, Bool, true, false, cond, not, ◌&&◌, ◌||◌, eqb, ◌⊎◌, sym, refl, ap, ◌∙◌, ap₂, inl, inr, add-one, arith}
+use Rattle.std.proofs.Common.{◌≡◌, ℕ, suc, ◌+◌, ◌/◌, ◌^◌, ◌<◌, Bool, true, false, cond, ◌&&◌, ◌||◌, eqb, ◌⊎◌, sym, refl, ap, ◌∙◌, ap₂, inl, inr, add-one, arith}
 use mathlib.Core.Bool.{or-false, and-true}
-use lib.Bits.{bit_and, bit_or, and_mask, and_le_r, or_lt, or_zero_r}
+use lib.Bits.{bit_and, bit_or, and_mask, or_lt, or_zero_r}
 use Rattle.std.proofs.lemmas.Nat.{pow_below, pow_pos}
-use Rattle.std.proofs.lemmas.Bool.{cases_Bool, cases_lt, cases_order, and_right, and_from, and_parts, eq-eqb, ne_eqb, eqb-true, or_cases}
+use Rattle.std.proofs.lemmas.Bool.{cases_lt, cases_order, and_right, eq-eqb, ne_eqb, eqb-true, or_cases}
 use Rattle.sets.specs.Masks.{has, collect, least, ◌∈◌, ◌∉◌}
-use Rattle.sets.proofs.Members.{clash, refuted, has-collect, collect-small, below-mask, same-mask, has-or, has-and, has-single, has-none, Least, least-is}
+use Rattle.sets.proofs.Members.{clash, refuted, has-collect, collect-small, below-mask, same-mask, has-or, has-single, has-none, Least, least-is}
 
 -- `(S >> v) & 1 == 1`
 pub has-shift : (S v : ℕ) → eqb (bit_and (S / 2 ^ v) 1) 1 ≡ has S v
 unfolding has
 has-shift S v = ap (λ q. eqb q 1) (and_mask (S / 2 ^ v) 1)
-
--- `S & (1 << v) == 0`
-pub has-bit : (S v : ℕ) → eqb (bit_and S (2 ^ v)) 0 ≡ not (has S v)
-has-bit S v = elim (cases_Bool (has S v)) [
-  | inl i ↦ ne_eqb (bit_and S (2 ^ v)) 0 (λ e. clash (ap (λ q. has q v) e ∙ has-none v)
-      (has-and S (2 ^ v) v ∙ and_from (has S v) (has (2 ^ v) v) i (has-single v v ∙ eq-eqb v v refl))) ∙ sym (ap not i)
-  | inr o ↦ eq-eqb (bit_and S (2 ^ v)) 0 (same-mask (suc v) (bit_and S (2 ^ v)) 0 (let p = and_le_r S (2 ^ v) in let q = pow_below v (suc v) (omega arith) in omega arith) (pow_pos (suc v))
-      (λ w _. has-and S (2 ^ v) w ∙ clear o w ∙ sym (has-none w))) ∙ sym (ap not o)
-]
-  where
-    clear : v ∉ S → (w : ℕ) → (has S w && has (2 ^ v) w) ≡ false
-    clear o w = refuted (λ t. let p = and_parts (has S w) (has (2 ^ v) w) t in clash o (ap (has S) (sym (eqb-true w v (sym (has-single v w) ∙ p.1))) ∙ p.0))
 
 has-cond : (b : Bool) (w v : ℕ) → has (cond b (2 ^ w) 0) v ≡ (b && eqb v w)
 has-cond true w v = has-single w v

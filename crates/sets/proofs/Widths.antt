@@ -1,18 +1,26 @@
 -- What the operations on a mask of k bits give, for every width k.
-use Rattle.std.proofs.Common.{◌≡◌, ℕ, zero, suc, ◌-◌, ◌/◌, ◌%◌, ◌^◌, ◌<◌, ◌≤◌, Bool, false, not, ◌&&◌, eqb, ltb, Some, None, sym, refl, ap, ◌∙◌, inl, inr, min, arith}
-use lib.Bits.{bit_and, and_lt}
+use Rattle.std.proofs.Common.{◌≡◌, ℕ, zero, suc, ◌-◌, ◌*◌, ◌/◌, ◌%◌, ◌^◌, ◌<◌, ◌≤◌, Bool, false, not, ◌&&◌, eqb, ltb, Some, None, sym, refl, ap, ◌∙◌, inl, inr, min, arith}
+use lib.Bits.{bit_and, and_lt, and_zero_r}
 use lib.Count.{count_trailing_zeros, under}
-use mathlib.Core.Bool.{not-not}
+use Rattle.std.proofs.Math.Pow.{pow_mono}
+use Rattle.std.proofs.lemmas.Nat.Bits.{and_pow, bit_at-lt}
 use Rattle.std.proofs.lemmas.Nat.{pow_below, pow_pos}
-use Rattle.std.proofs.lemmas.Bool.{cases_Bool, cases_lt, lt-ltb, le-ltb, eq-eqb, ne_eqb, cond-true, cond-false}
+use Rattle.std.specs.Bool.{then_some}
+use Rattle.std.proofs.lemmas.Bool.{cases_Bool, cases_lt, lt-ltb, le-ltb, eq-eqb, ne_eqb, eqb-true, eqb-false, cond-true, cond-false}
 use Rattle.sets.specs.Masks.{has, collect, any, least, lowest, ◌∈◌, ◌∉◌}
 use Rattle.sets.proofs.Members.{clash, refuted, has-zero, has-suc, has-none, same-mask, below-mask, has-and, has-single, decides-any, least-is}
-use Rattle.sets.proofs.Shifts.{has-bit, least-unique}
+use Rattle.sets.proofs.Shifts.{least-unique}
 use Rattle.sets.proofs.Collected.{has_first, is-collect, within-mask}
 
 -- `S & (1 << v) != 0`
+bit-test : (b p : ℕ) → b < 2 → 0 < p → not (eqb (b * p) 0) ≡ eqb b 1
+bit-test zero p h q = ap not (eq-eqb (0 * p) 0 (omega arith))
+bit-test (suc zero) p h q = ap not (ne_eqb (1 * p) 0 (λ e. omega arith))
+bit-test (suc (suc b)) p h q = absurd (omega arith)
+
 pub member-is : (S v : ℕ) → not (eqb (bit_and S (2 ^ v)) 0) ≡ has S v
-member-is S v = ap not (has-bit S v) ∙ not-not (has S v)
+unfolding has
+member-is S v = rw (and_pow S v) (bit-test (S / 2 ^ v % 2) (2 ^ v) (bit_at-lt S v) (pow_pos v))
 
 -- `1 << v`, and no member where v is no number of k bits
 pub single-is : (k v : ℕ) → v < k → 2 ^ v ≡ collect k (λ w. eqb w v)
@@ -24,10 +32,7 @@ single-none k v l = is-collect k k 0 (λ w. eqb w v) (omega arith) (pow_pos k) (
 
 -- the n lowest bits, and all k of them where n is past the width
 pub ones-small : (k n : ℕ) → n ≤ k → 2 ^ n - 1 < 2 ^ k
-ones-small k n l = elim (cases_lt n k) [
-  | inl h ↦ let q = pow_below n k h in omega arith
-  | inr h ↦ let e : n ≡ k = omega arith in rw e (let q = pow_pos k in omega arith)
-]
+ones-small k n l = omega (arith, pow_mono l, pow_pos n)
 
 pub below-is : (k n : ℕ) → n ≤ k → 2 ^ n - 1 ≡ collect k (λ v. ltb v n)
 below-is k n l = is-collect k k (2 ^ n - 1) (λ v. ltb v n) (omega arith) (ones-small k n l) (λ v _. has_first n v) (λ v h. has_first n v ∙ le-ltb v n (omega arith))
@@ -87,13 +92,22 @@ module _ (n : ℕ) (f : ℕ → Bool) (S : ℕ) (member : (v : ℕ) → v < n �
       let q : m ≡ least n f = least-unique n f m (record { within = omega arith; passes = λ _. sym (member m low) ∙ p.0; before = λ v l. sym (member v (omega arith)) ∙ p.1 v l }) in
       ap Some q ∙ sym (cond-true (ltb (least n f) n) _ _ (lt-ltb (least n f) n (omega arith)))
 
--- the same of a set of k bits
+-- the same of a set of k bits, in a word of w bits
 pub lowest-empty : (k S : ℕ) → S ≡ 0 → None ≡ lowest k (has S)
 lowest-empty k S z = lowest-none k (has S) S (λ v _. refl) z
 
-pub lowest-zeros : (k S : ℕ) → S < 2 ^ k → (S ≡ 0 → ⊥) → Some (count_trailing_zeros k S) ≡ lowest k (has S)
-lowest-zeros k S s z = lowest-some k (has S) S (λ v _. refl) k s s z
+pub lowest-zeros : (w k S : ℕ) → k ≤ w → S < 2 ^ k → (S ≡ 0 → ⊥) → Some (count_trailing_zeros w S) ≡ lowest k (has S)
+lowest-zeros w k S wide s z = lowest-some k (has S) S (λ v _. refl) w (omega (arith, s, pow_mono wide)) s z
 
--- a number past the width is no member
-pub contains-past : (k S v : ℕ) → S < 2 ^ k → k ≤ v → ltb v k ≡ has S v
-contains-past k S v s l = le-ltb v k l ∙ sym (within-mask k S v s l)
+pub lowest-is : (w k S : ℕ) → k ≤ w → S < 2 ^ k → then_some (not (eqb S 0)) (count_trailing_zeros w S) ≡ lowest k (has S)
+lowest-is w k S wide s = elim (cases_Bool (eqb S 0)) [
+  | inl t ↦ ap (λ b. then_some (not b) (count_trailing_zeros w S)) t ∙ lowest-empty k S (eqb-true _ _ t)
+  | inr f ↦ ap (λ b. then_some (not b) (count_trailing_zeros w S)) f ∙ lowest-zeros w k S wide s (eqb-false _ _ f)
+]
+
+-- `S & D != 0`, where D is the set of v alone
+pub contains-is : (k S D v : ℕ) → S < 2 ^ k → D ≡ collect k (λ w. eqb w v) → not (eqb (bit_and S D) 0) ≡ has S v
+contains-is k S D v s d = elim (cases_lt v k) [
+  | inl l ↦ ap (λ n. not (eqb (bit_and S n) 0)) (d ∙ sym (single-is k v l)) ∙ member-is S v
+  | inr h ↦ ap (λ n. not (eqb (bit_and S n) 0)) (d ∙ sym (single-none k v h)) ∙ ap not (eq-eqb (bit_and S 0) 0 (and_zero_r S)) ∙ sym (within-mask k S v s h)
+]

@@ -2,4 +2,4 @@
 #![tactic(auto)]
 
 pub mod set;
-pub mod word;
+pub mod width;

@@ -1,56 +1,68 @@
 // Sets of small numbers.
-ghost use Rattle.std.specs.Prelude.{◌≡◌, not, ◌&&◌, nat_eq, nat_lt, bit_or};
+ghost use Rattle.std.specs.Prelude.{◌≡◌, ◌-◌, ◌^◌, ◌<◌, ◌≤◌, not, ◌&&◌, nat_eq, nat_lt, bit_or};
 ghost use Rattle.sets.specs.Masks.{has, collect, any, lowest};
 
-use crate::word::Word;
-use std::alloc::AllocError;
-use std::marker::Model;
+use crate::width::{OfBranches, OfNodes, Width};
+use std::marker::{Model, PhantomData};
 
 mod convert;
 mod debug;
-mod equality;
 pub mod members;
 mod operators;
 
-// A set of numbers below the width of a word: bit k says whether k is a member. A contract sees the number that the word is.
-pub struct Set<W: Word> {
-    word: W,
+// A set of numbers below a width: bit k of the word says whether k is a member. A contract sees the number that the word is.
+#[derive_where(Clone, Copy, Default, PartialEq, Eq)]
+pub struct Set<W: Width> {
+    word: u64,
+    #[derive_where(skip)]
+    width: PhantomData<W>,
 }
 
-impl<W: Word> Model for Set<W> {
+impl<W: Width> Model for Set<W> {
     ghost use Rattle.std.specs.Prelude.{ℕ, ◌<◌, ◌^◌};
-    ghost use Rattle.std.proofs.Common.{ap};
 
     ghost Value = { ℕ };
 
-    ghost view = { λ s. W.value s.word };
+    ghost view = { λ s. s.word };
 
-    ghost invariant = { λ s. W.value s.word < 2 ^ W.BITS };
+    ghost invariant = { λ s. s.word < 2 ^ W.BITS };
 
-    ghost inverse = { λ n. record { word = W.word n } };
-
-    ghost inverse_ok = { λ s _. ap {B = Inside} (λ w. record { word = w }) (W.round_trip s.word) };
+    ghost inverse = { λ n. record { word = n; width = record {} } };
 }
 
-impl<W: Word> Clone for Set<W> {
-    fn clone(&self) -> Result<Set<W>, AllocError> {
-        Ok(*self)
+// Sets of nodes, and sets of branches.
+pub type NodeSet = Set<OfNodes>;
+
+pub type BranchSet = Set<OfBranches>;
+
+// The n lowest bits.
+fn ones(n: u32) -> u64
+    requires { n ≤ 64 }
+    ensures { result ≡ 2 ^ n - 1 }
+{
+    if n < u64::BITS {
+        (1u64 << n) - 1
+    } else {
+        u64::MAX
     }
 }
 
-impl<W: Word> Copy for Set<W> {}
+impl<W: Width> Set<W> {
+    fn of(word: u64) -> Set<W>
+        requires { word < 2 ^ W.BITS }
+        ensures { result ≡ word }
+    {
+        Set {
+            word,
+            width: PhantomData,
+        }
+    }
 
-// Sets of nodes, and sets of branches.
-pub type NodeSet = Set<u32>;
-
-pub type BranchSet = Set<u64>;
-
-impl<W: Word> Set<W> {
     // The set without members.
     pub fn new() -> Set<W>
         ensures { result ≡ 0 }
     {
-        Set { word: W::ones(0) }
+        Set::of(0)
     }
 
     // The set of one number; a number past the width is in no set.
@@ -58,7 +70,7 @@ impl<W: Word> Set<W> {
         ensures { result ≡ collect W.BITS (λ v. nat_eq v k) }
     {
         if k < W::BITS {
-            Set { word: W::bit(k) }
+            Set::of(1u64 << k)
         } else {
             Set::new()
         }
@@ -68,21 +80,19 @@ impl<W: Word> Set<W> {
     pub fn below(count: u32) -> Set<W>
         ensures { result ≡ collect W.BITS (λ v. nat_lt v count) }
     {
-        Set {
-            word: W::ones(count.min(W::BITS)),
-        }
+        Set::of(ones(count.min(W::BITS)))
     }
 
     pub fn is_empty(self) -> bool
         ensures { result ≡ nat_eq self 0 }
     {
-        self.word.is_zero()
+        self == Set::new()
     }
 
     pub fn contains(self, k: u32) -> bool
         ensures { result ≡ has self k }
     {
-        k < W::BITS && !self.word.and(W::bit(k)).is_zero()
+        self.word & Set::<W>::single(k).word != 0
     }
 
     // Adds k, unless it is past the width.
@@ -96,17 +106,13 @@ impl<W: Word> Set<W> {
     pub fn is_disjoint(self, other: Set<W>) -> bool
         ensures { result ≡ not (any W.BITS (λ v. has self v && has other v)) }
     {
-        self.word.and(other.word).is_zero()
+        self.word & other.word == 0
     }
 
     // The lowest member.
     pub fn first(self) -> Option<u32>
         ensures { result ≡ lowest W.BITS (has self) }
     {
-        if self.is_empty() {
-            None
-        } else {
-            Some(self.word.trailing_zeros())
-        }
+        (!self.is_empty()).then_some(self.word.trailing_zeros())
     }
 }

@@ -37,7 +37,7 @@ read_by bytes deck before table (Ok es) e a t =
       within = omega arith;
       taken = ap (λ rows. list_asked deck.nodes rows) first ∙ ap (λ d. list_asked d.nodes (branches_in es)) is ∙ accepted-is-taken bytes 64 es e;
     }
-read_by bytes deck before table (Err f) e a t = let z : ◌≡◌ {A = ℕ} 0 1 = cc in absurd (omega arith)
+read_by bytes deck before table (Err f) e a t = cc
 
 pub read : (bytes : List ℕ) (places : ℕ) (deck : Deck) (before table : List TableRow) → places ≡ 64 → Ok deck ≡ deck_read (read_bytes places bytes) → table ≡ table_after (read_bytes places bytes) before → Read bytes deck table
 read bytes places deck before table n a t =
@@ -45,12 +45,12 @@ read bytes places deck before table n a t =
 
 -- what is written of an accepted deck is its description
 pub accepted-text : (bytes : List ℕ) (net : RatedNet) (head : ℕ) → Tells bytes net head
-    → network_text net.plain net.ratings head ++ door_lines (doors_in (cards bytes)) ≡ description bytes
+    → network_text net head ++ door_lines (doors_in (cards bytes)) ≡ description bytes
 accepted-text bytes net head t =
-    (λ i. network_text (t.net_is i).plain (t.net_is i).ratings (t.head_is i) ++ door_lines (doors-agree bytes 64 t.entries t.accepted i)) ∙ sym (ap described t.accepted)
+    (λ i. network_text (t.net_is i) (t.head_is i) ++ door_lines (doors-agree bytes 64 t.entries t.accepted i)) ∙ sym (ap described t.accepted)
 
 -- what is written of its doors is its sheet
 pub accepted-sheet : (bytes : List ℕ) (net : RatedNet) (head : ℕ) → Tells bytes net head
-    → door_texts net.plain net.ratings head (doors_in (cards bytes)) ≡ sheet_text bytes
+    → door_texts net head (doors_in (cards bytes)) ≡ sheet_text bytes
 accepted-sheet bytes net head t =
-    (λ i. door_texts (t.net_is i).plain (t.net_is i).ratings (t.head_is i) (doors-agree bytes 64 t.entries t.accepted i)) ∙ sym (ap studied t.accepted)
+    (λ i. door_texts (t.net_is i) (t.head_is i) (doors-agree bytes 64 t.entries t.accepted i)) ∙ sym (ap studied t.accepted)

@@ -8,7 +8,7 @@ use Rattle.std.proofs.lemmas.Option.{slice_get_past}
 use mathlib.Core.List.{map-append}
 use Rattle.refusals.specs.declared.study_fault.StudyFault.{StudyFault}
 use Rattle.network.specs.declared.rating.Rating.{Rating}
-use Rattle.network.specs.Meaning.{Net}
+use Rattle.network.specs.Meaning.{Net, RatedNet}
 use Rattle.network.specs.Questions.{Answer}
 use Rattle.search.specs.Search.{Search, status, run, aimed}
 use Rattle.search.proofs.Full.{run-room}
@@ -69,10 +69,16 @@ module _ (net : Net) (ratings : List Rating) (s : State) where
       ap (cut_lines net s) (let z : 512 ≡ length s.search.rows + (512 - length s.search.rows) = omega arith in z)
       ∙ cut_lines-past (length s.search.rows) (512 - length s.search.rows) (omega arith)
 
-module _ (net : Net) (ratings : List Rating) (head d : ℕ) where
+module _ (rated : RatedNet) (head d : ℕ) where
+  abbrev net : Net
+  net = rated.plain
+
+  abbrev ratings : List Rating
+  ratings = rated.ratings
+
   text-from : (aim : Asked Billionth Decimal) (u : Search) → u.tries ≡ 0 → length u.rows ≤ 512
       → answers_text d (aim ∷ answered net ratings billionths nine_figures 0 (record { stage = Aimed head d; search = u }) (Advance 10000 ∷ Advance 10000 ∷ Bounds First ∷ Bounds Second ∷ showings 512))
-      ≡ study_text net ratings d (fold (called net) (record { stage = Aimed head d; search = u }) (Advance 10000 ∷ Advance 10000 ∷ []))
+      ≡ study_text rated d (fold (called net) (record { stage = Aimed head d; search = u }) (Advance 10000 ∷ Advance 10000 ∷ []))
   text-from aim u none few =
       let v = run net d 10000 u in
       let w = run net d 10000 v in
@@ -84,13 +90,13 @@ module _ (net : Net) (ratings : List Rating) (head d : ℕ) where
   aimed-there e f = rw (e, f) refl
 
   study-text : set_up_answer net head ≡ Ok tt → door_asked net head d ≡ Ok tt
-      → answers_text d (answered net ratings billionths nine_figures 0 (set_up net head no_state) (run_calls d)) ≡ study_text net ratings d (after net head (door_calls d))
+      → answers_text d (answered net ratings billionths nine_figures 0 (set_up net head no_state) (run_calls d)) ≡ study_text rated d (after net head (door_calls d))
   study-text e f =
       let there = aimed-there e f in
       let aim : Asked Billionth Decimal = record { call = Aim d; answer = Some (answer net ratings billionths nine_figures 0 (set_up net head no_state) (Aim d)) } in
       ap (λ t. answers_text d (aim ∷ answered net ratings billionths nine_figures 0 t (Advance 10000 ∷ Advance 10000 ∷ Bounds First ∷ Bounds Second ∷ showings 512))) there
       ∙ text-from aim (aimed net head d) refl (omega arith)
-      ∙ ap (λ t. study_text net ratings d (fold (called net) t (Advance 10000 ∷ Advance 10000 ∷ []))) (sym there)
+      ∙ ap (λ t. study_text rated d (fold (called net) t (Advance 10000 ∷ Advance 10000 ∷ []))) (sym there)
 
   -- what the aim of the run is asked
   first-aim : set_up_answer net head ≡ Ok tt → aim_answer net d (set_up net head no_state) ≡ door_asked net head d
@@ -99,8 +105,8 @@ module _ (net : Net) (ratings : List Rating) (head d : ℕ) where
   by-neither : (text : List ℕ) (a b : Answer StudyFault) → a ≡ Ok tt → b ≡ Ok tt
       → text ≡ elim a [ Err fault ↦ refused_line d fault | Ok u ↦ elim b [ Err fault ↦ refused_line d fault | Ok v ↦ text ] ]
   by-neither text (Ok u) (Ok v) e f = refl
-  by-neither text (Ok u) (Err other) e f = let y : ◌≡◌ {A = ℕ} 0 1 = cc in absurd (omega arith)
-  by-neither text (Err other) b e f = let y : ◌≡◌ {A = ℕ} 0 1 = cc in absurd (omega arith)
+  by-neither text (Ok u) (Err other) e f = cc
+  by-neither text (Err other) b e f = cc
 
   aim-told : (places : List (Asked Billionth Decimal)) (z : Asked Billionth Decimal) → set_up_answer net head ≡ Ok tt
       → places ≡ answered net ratings billionths nine_figures 0 (set_up net head no_state) (run_calls d) → aim_fault (get_or places 0 z).answer ≡ result_err (door_asked net head d)
@@ -108,12 +114,12 @@ module _ (net : Net) (ratings : List Rating) (head d : ℕ) where
 
   pub studied-door : (calls : List Call) (places : List (Asked Billionth Decimal)) (z : Asked Billionth Decimal) → calls ≡ run_calls d → set_up_answer net head ≡ Ok tt
       → places ≡ answered net ratings billionths nine_figures 0 (set_up net head no_state) calls → None ≡ aim_fault (get_or places 0 z).answer
-      → answers_text d places ≡ door_text net ratings head d
+      → answers_text d places ≡ door_text rated head d
   studied-door calls places z r e q h = go (door_asked net head d) refl (h ∙ aim-told places z e p)
     where
       p : places ≡ answered net ratings billionths nine_figures 0 (set_up net head no_state) (run_calls d)
       p = q ∙ ap (answered net ratings billionths nine_figures 0 (set_up net head no_state)) r
 
-      go : (q : Answer StudyFault) → door_asked net head d ≡ q → None ≡ result_err q → answers_text d places ≡ door_text net ratings head d
-      go (Ok u) f h = ap (answers_text d) p ∙ study-text e f ∙ by-neither (study_text net ratings d (after net head (door_calls d))) (set_up_answer net head) (door_asked net head d) e f
-      go (Err other) f h = let y : ◌≡◌ {A = ℕ} 0 1 = cc in absurd (omega arith)
+      go : (q : Answer StudyFault) → door_asked net head d ≡ q → None ≡ result_err q → answers_text d places ≡ door_text rated head d
+      go (Ok u) f h = ap (answers_text d) p ∙ study-text e f ∙ by-neither (study_text rated d (after net head (door_calls d))) (set_up_answer net head) (door_asked net head d) e f
+      go (Err other) f h = cc

@@ -1,5 +1,5 @@
 -- The text that describes a deck: its refusal, or its network and its doors.
-use Rattle.std.specs.Prelude.{ℕ, zero, suc, List, [], ◌∷◌, ◌++◌, map, length, Some, None, Ok, Err, codes, decimal, Option, Result}
+use Rattle.std.specs.Prelude.{ℕ, zero, suc, List, [], ◌∷◌, ◌++◌, length, Some, None, Ok, Err, codes, decimal, Option, Result}
 use Rattle.std.specs.List.{slice_get, flat_map}
 use Rattle.refusals.specs.declared.deck_fault.DeckRefusal.{DeckRefusal}
 use Rattle.refusals.specs.Refusals.{refusal_text}
@@ -7,7 +7,7 @@ use Rattle.deck.specs.Decks.{Entry, read_bytes, nodes_in, head_in, branches_in}
 use Rattle.deck.specs.Doorways.{doors_of}
 use Rattle.network.specs.declared.branch.Branch.{Branch}
 use Rattle.network.specs.declared.rating.Rating.{Rating}
-use Rattle.network.specs.Meaning.{Net, branch_text, list_net, rating_of}
+use Rattle.network.specs.Meaning.{RatedNet, branch_text, list_rated}
 use Rattle.network.specs.Ratings.{rating_text}
 
 -- NODES n HEAD h BRANCHES b
@@ -29,8 +29,8 @@ unfoldable pub lines_below : List Branch → List Rating → ℕ → List ℕ
 lines_below bs rs zero = []
 lines_below bs rs (suc n) = lines_below bs rs n ++ line_at n (slice_get bs n) (slice_get rs n)
 
-abbrev pub network_text : Net → List Rating → ℕ → List ℕ
-network_text net ratings head = headline net.nodes head (length net.branches) ++ lines_below net.branches ratings (length net.branches)
+abbrev pub network_text : RatedNet → ℕ → List ℕ
+network_text net head = headline net.plain.nodes head (length net.plain.branches) ++ lines_below net.plain.branches net.ratings (length net.plain.branches)
 
 -- DOOR d
 abbrev pub door_line : ℕ → List ℕ
@@ -45,7 +45,7 @@ refusal_line refusal = refusal_text refusal ++ (10 ∷ [])
 
 abbrev pub described : Result (List Entry) DeckRefusal → List ℕ
 described (Err refusal) = refusal_line refusal
-described (Ok es) = network_text (list_net (nodes_in es) (branches_in es)) (map rating_of (branches_in es)) (head_in es) ++ door_lines (doors_of es)
+described (Ok es) = network_text (list_rated (nodes_in es) (branches_in es)) (head_in es) ++ door_lines (doors_of es)
 
 -- what is printed of a deck
 abbrev pub description : List ℕ → List ℕ

@@ -1,15 +1,15 @@
 -- The text of a study's sheet: for each door its cuts and bounds, or its refusal.
-use Rattle.std.specs.Prelude.{◌≡◌, ℕ, zero, suc, List, [], ◌∷◌, ◌++◌, map, length, Some, None, Ok, Err, codes, decimal, Option, Result, ◌≢◌}
+use Rattle.std.specs.Prelude.{◌≡◌, ℕ, zero, suc, List, [], ◌∷◌, ◌++◌, length, Some, None, Ok, Err, codes, decimal, Option, Result, ◌≢◌}
 use Rattle.std.specs.List.{flat_map}
 use Rattle.std.specs.Result.{result_ok}
 use Rattle.refusals.specs.declared.deck_fault.DeckRefusal.{DeckRefusal}
 use Rattle.refusals.specs.declared.study_fault.StudyFault.{StudyFault}
 use Rattle.refusals.specs.Refusals.{study_refusal}
-use Rattle.network.specs.declared.rating.Rating.{Rating}
-use Rattle.network.specs.Meaning.{Net, Legal, list_net, rating_of}
+use Rattle.network.specs.Meaning.{Net, RatedNet, Legal, list_rated}
 use Rattle.search.specs.Search.{status}
 use Rattle.search.specs.declared.status.Status.{Status}
-use Rattle.search.specs.declared.status.Status.TheVariants.{Finished, Full, More}
+use Rattle.search.specs.declared.status.Status.TheVariants.{More}
+use Rattle.search.specs.Words.{status_word}
 use Rattle.scale.specs.declared.billionths.Billionth.{Billionth}
 use Rattle.scale.specs.declared.nine_figures.Decimal.{Decimal}
 use Rattle.scale.specs.Billionths.{billionths}
@@ -29,11 +29,6 @@ use Rattle.sheet.specs.Descriptions.{refusal_line}
 -- DOOR d REFUSED number
 abbrev pub refused_line : ℕ → StudyFault → List ℕ
 refused_line d fault = codes "DOOR " ++ (decimal d ++ (codes " REFUSED " ++ (decimal (study_refusal fault).number ++ (10 ∷ []))))
-
-abbrev pub status_word : Status → List ℕ
-status_word Finished = codes "FINISHED"
-status_word Full = codes "FULL"
-status_word More = codes "MORE"
 
 -- DOOR d CUTS c TRIES t FINISHED, or another status
 abbrev pub progress_line : ℕ → ℕ → ℕ → Status → List ℕ
@@ -72,9 +67,10 @@ abbrev pub fine_line : Option (Bounds Decimal) → List ℕ
 fine_line bounds = bounds_line (codes "FINE ") (codes " ") figures bounds
 
 -- how a search stands, its cuts, and its bounds in both scales
-abbrev pub study_text : Net → List Rating → ℕ → State → List ℕ
-study_text net ratings d s =
-    standing_line d (standing_answer net s) ++ (cut_lines net s (length s.search.rows) ++ (low_line (result_ok (bounds_answer net ratings billionths s)) ++ fine_line (result_ok (bounds_answer net ratings nine_figures s))))
+abbrev pub study_text : RatedNet → ℕ → State → List ℕ
+study_text net d s =
+    standing_line d (standing_answer net.plain s)
+    ++ (cut_lines net.plain s (length s.search.rows) ++ (low_line (result_ok (bounds_answer net.plain net.ratings billionths s)) ++ fine_line (result_ok (bounds_answer net.plain net.ratings nine_figures s))))
 
 -- what is done for a door: an aim, and two advances that suffice for any search
 abbrev pub door_calls : ℕ → List Call
@@ -89,22 +85,22 @@ abbrev pub TwoAdvancesEnd : Type 0
 TwoAdvancesEnd = (net : Net) → Legal net → (head d : ℕ) → Ended net head d
 
 -- the sheet of one door, or the refusal of its head or of the door itself
-abbrev pub door_text : Net → List Rating → ℕ → ℕ → List ℕ
-door_text net ratings head d =
-    elim (set_up_answer net head) [
+abbrev pub door_text : RatedNet → ℕ → ℕ → List ℕ
+door_text net head d =
+    elim (set_up_answer net.plain head) [
       | Err fault ↦ refused_line d fault
-      | Ok u ↦ elim (door_asked net head d) [
+      | Ok u ↦ elim (door_asked net.plain head d) [
         | Err fault ↦ refused_line d fault
-        | Ok v ↦ study_text net ratings d (after net head (door_calls d))
+        | Ok v ↦ study_text net d (after net.plain head (door_calls d))
       ]
     ]
 
-abbrev pub door_texts : Net → List Rating → ℕ → List ℕ → List ℕ
-door_texts net ratings head ds = flat_map (door_text net ratings head) ds
+abbrev pub door_texts : RatedNet → ℕ → List ℕ → List ℕ
+door_texts net head ds = flat_map (door_text net head) ds
 
 abbrev pub studied : Result (List Entry) DeckRefusal → List ℕ
 studied (Err refusal) = refusal_line refusal
-studied (Ok es) = door_texts (list_net (nodes_in es) (branches_in es)) (map rating_of (branches_in es)) (head_in es) (doors_of es)
+studied (Ok es) = door_texts (list_rated (nodes_in es) (branches_in es)) (head_in es) (doors_of es)
 
 -- the sheet of a deck
 abbrev pub sheet_text : List ℕ → List ℕ

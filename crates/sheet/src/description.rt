@@ -22,7 +22,7 @@ impl<'a> fmt::Display for Description<'a> {
     ghost output = { λ d. Some (description d.bytes.now) };
 
     fn fmt<W: fmt::Write>(&self, f: &mut fmt::Formatter<W>) -> fmt::Result {
-        let mut table = [TableRow::BLANK; 64];
+        let mut table = [TableRow::default(); 64];
         match read_network(self.bytes, &mut table) {
             Ok((list, head)) => {
                 let network = &list;

@@ -32,7 +32,9 @@ impl fmt::Display for RefusedDoor {
     }
 }
 
-// The sheet of a door, or its refusal, by one run of calls. The study may have held anything before.
+// The sheet of a door, or its refusal, by one run of calls. The study may have held anything before. Where memory fails,
+// nothing is said of the text, since `write!` on a `String` promises nothing there.
+// Stays a text beside a study: both are the caller's, and lent for this call alone.
 pub fn write_door<N: RatedNetwork>(
     text: &mut String,
     study: &mut Study,
@@ -40,7 +42,7 @@ pub fn write_door<N: RatedNetwork>(
     head: u32,
     door: u32,
 ) -> Result<(), AllocError>
-    ensures { OnOk result (string_bytes text.new ≡ string_bytes text.old ++ door_text (N.RatedNetwork.rated network.now).plain (N.RatedNetwork.rated network.now).ratings head door) }
+    ensures { OnOk result (string_bytes text.new ≡ string_bytes text.old ++ door_text (N.RatedNetwork.rated network.now) head door) }
 {
     let mut places = calls_for(door);
     if let Err(fault) = carry_out::<Billionths, NineFigures, N>(
@@ -62,8 +64,6 @@ pub fn write_door<N: RatedNetwork>(
 }
 
 // On every network the calls that are made for a door bring its search to an end: it is finished, or full.
-pub fn two_advances_end() -> bool
+pub fn two_advances_end()
     ensures { TwoAdvancesEnd }
-{
-    true
-}
+{}

@@ -7,7 +7,7 @@ mod door_calls;
 pub mod door_text;
 mod lines;
 pub mod network_text;
-mod reading;
+pub mod reading;
 mod replies;
 pub mod study_sheet;
 pub mod study_text;

@@ -1,7 +1,7 @@
 // The lines of a door's sheet.
 ghost use Rattle.std.specs.Prelude.{◌≡◌};
 ghost use Rattle.std.specs.Fmt.{WritesOnOk, DisplaysOnOk};
-ghost use Rattle.sheet.specs.Sheets.{status_word, progress_line, row_line, low_line, fine_line};
+ghost use Rattle.sheet.specs.Sheets.{progress_line, row_line, low_line, fine_line};
 ghost use Rattle.sheet.specs.Shown.{bounds_output};
 
 use chance::bounds::Bounds;
@@ -10,16 +10,6 @@ use scale::billionths::Billionth;
 use scale::nine_figures::Decimal;
 use search::status::Status;
 use std::fmt;
-
-fn status_word(status: Status) -> &'static str
-    ensures { result.now ≡ status_word status }
-{
-    match status {
-        Status::Finished => "FINISHED",
-        Status::Full => "FULL",
-        Status::More => "MORE",
-    }
-}
 
 // How a search stands.
 pub(crate) fn write_progress<W: fmt::Write>(
@@ -31,7 +21,6 @@ pub(crate) fn write_progress<W: fmt::Write>(
 ) -> fmt::Result
     ensures { WritesOnOk W.write_str_gives f.old result (progress_line door tries rows status) f.new }
 {
-    let status = status_word(status);
     writeln!(f, "DOOR {door} CUTS {rows} TRIES {tries} {status}")
 }
 

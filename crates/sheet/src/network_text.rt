@@ -4,6 +4,8 @@ ghost use Rattle.std.specs.Fmt.{WritesOnOk};
 ghost use Rattle.std.specs.List.{slice_get};
 ghost use Rattle.sheet.specs.Descriptions.{line_at, lines_below, network_text};
 
+use network::branch::Branch;
+use network::branches::branches_of;
 use network::traits::RatedNetwork;
 use std::fmt;
 
@@ -15,7 +17,7 @@ pub struct NetworkText<'a, N> {
 }
 
 impl<'a, N: RatedNetwork> fmt::Display for NetworkText<'a, N> {
-    ghost output = { λ t. Some (network_text (N.Network.net t.network.now) (N.RatedNetwork.rated t.network.now).ratings t.head) };
+    ghost output = { λ t. Some (network_text (record { plain = N.Network.net t.network.now; ratings = (N.RatedNetwork.rated t.network.now).ratings }) t.head) };
 
     fn fmt<W: fmt::Write>(&self, f: &mut fmt::Formatter<W>) -> fmt::Result {
         let nodes = self.network.nodes();
@@ -26,22 +28,23 @@ impl<'a, N: RatedNetwork> fmt::Display for NetworkText<'a, N> {
     }
 }
 
-// The line of branch k, where there is one.
+// The line of branch k, where it has a rating.
 fn write_branch<W: fmt::Write, N: RatedNetwork>(
     f: &mut fmt::Formatter<W>,
     network: &N,
     k: u32,
+    branch: Branch,
 ) -> fmt::Result
     ensures { WritesOnOk
         W.write_str_gives
         f.old
         result
-        (line_at k (slice_get (N.Network.net network.now).branches k) (slice_get (N.RatedNetwork.rated network.now).ratings k))
+        (line_at k (Some branch) (slice_get (N.RatedNetwork.rated network.now).ratings k))
         f.new }
 {
-    match (network.branch(k), network.rating(k)) {
-        (Some(branch), Some(rating)) => writeln!(f, "BRANCH {k} {branch} {rating}"),
-        _ => Ok(()),
+    match network.rating(k) {
+        Some(rating) => writeln!(f, "BRANCH {k} {branch} {rating}"),
+        None => Ok(()),
     }
 }
 
@@ -56,8 +59,8 @@ fn write_branches<W: fmt::Write, N: RatedNetwork>(
         (lines_below (N.Network.net network.now).branches (N.RatedNetwork.rated network.now).ratings (length (N.Network.net network.now).branches))
         f.new }
 {
-    for k in 0..network.branches() {
-        write_branch(f, network, k)?;
+    for (k, branch) in branches_of(network) {
+        write_branch(f, network, k, branch)?;
     }
     Ok(())
 }

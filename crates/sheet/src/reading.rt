@@ -11,7 +11,8 @@ use refusals::deck_fault::DeckRefusal;
 
 // The network that a deck tells, over the table that it fills, and the head. A list takes the rows of an accepted deck,
 // since the deck was asked the same questions.
-pub(crate) fn read_network<'a>(
+// Stays a table of the caller with a count beside it: the rules ask for its 64 places, and a list lends them.
+pub fn read_network<'a>(
     bytes: &[u8],
     table: &'a mut [TableRow; 64],
 ) -> Result<(List<'a>, u32), DeckRefusal>

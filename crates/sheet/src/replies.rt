@@ -1,4 +1,5 @@
 // What a place of a run holds, by the kind of its answer.
+// Stays a function for each kind: each names a variant of its own, and as methods of `Answer` they would be the same five.
 ghost use Rattle.std.specs.Prelude.{◌≡◌};
 ghost use Rattle.sheet.specs.Answers.{aim_fault, made_in, shown_in, low_in, fine_in};
 

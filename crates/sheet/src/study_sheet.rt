@@ -20,7 +20,7 @@ fn write_doors<N: RatedNetwork>(
     head: u32,
     bytes: &[u8],
 ) -> Result<(), AllocError>
-    ensures { OnOk result (string_bytes text.new ≡ string_bytes text.old ++ door_texts (N.RatedNetwork.rated network.now).plain (N.RatedNetwork.rated network.now).ratings head (doors_in (cards bytes.now))) }
+    ensures { OnOk result (string_bytes text.new ≡ string_bytes text.old ++ door_texts (N.RatedNetwork.rated network.now) head (doors_in (cards bytes.now))) }
 {
     for door in Doors::new(bytes) {
         write_door(text, study, network, head, door)?;
@@ -32,7 +32,7 @@ fn write_doors<N: RatedNetwork>(
 pub fn write_sheet(text: &mut String, study: &mut Study, bytes: &[u8]) -> Result<(), AllocError>
     ensures { OnOk result (string_bytes text.new ≡ string_bytes text.old ++ sheet_text bytes.now) }
 {
-    let mut table = [TableRow::BLANK; 64];
+    let mut table = [TableRow::default(); 64];
     match read_network(bytes, &mut table) {
         Ok((network, head)) => write_doors(text, study, &network, head, bytes),
         Err(refusal) => writeln!(text, "{refusal}"),

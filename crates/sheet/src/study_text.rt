@@ -21,7 +21,7 @@ pub struct StudyText<'a, N> {
 }
 
 impl<'a, N: RatedNetwork> fmt::Display for StudyText<'a, N> {
-    ghost output = { λ t. Some (study_text (N.Network.net t.network.now) (N.RatedNetwork.rated t.network.now).ratings t.door (state_of t.study.now)) };
+    ghost output = { λ t. Some (study_text (record { plain = N.Network.net t.network.now; ratings = (N.RatedNetwork.rated t.network.now).ratings }) t.door (state_of t.study.now)) };
 
     fn fmt<W: fmt::Write>(&self, f: &mut fmt::Formatter<W>) -> fmt::Result {
         write_standing(f, self.study, self.network, self.door)?;
@@ -53,6 +53,7 @@ fn write_standing<W: fmt::Write, N: Network>(
     }
 }
 
+// Stays apart from the rows of answers: one text would take an iterator, whose contract is longer than both loops.
 fn write_rows<W: fmt::Write, N: Network>(
     f: &mut fmt::Formatter<W>,
     study: &Study,
@@ -60,6 +61,7 @@ fn write_rows<W: fmt::Write, N: Network>(
 ) -> fmt::Result
     ensures { WritesOnOk W.write_str_gives f.old result (cut_lines (N.Network.net network.now) (state_of study.now) (length (state_of study.now).search.rows)) f.new }
 {
+    // Stays a loop over row numbers: `show` takes the number, and refuses it where there is no such row.
     for k in 0..study.rows() {
         write_row(f, study.show(network, k).ok())?;
     }

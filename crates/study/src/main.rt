@@ -4,6 +4,7 @@
 use sheet::study_sheet::sheet_of;
 use std::io::Read;
 
+// Stays beside the same six lines of `describe`: a function of both would take the text as a closure that may fail.
 fn main(rt: HostRuntime) -> anyhow::Result<()> {
     let mut bytes = Vec::new(rt.alloc());
     rt.stdin().read_to_end(&mut bytes)?;

@@ -9,7 +9,7 @@ use Rattle.network.specs.declared.rating.Rating.{Rating}
 use Rattle.network.specs.Meaning.{Net, RatedNet}
 use Rattle.search.specs.Cuts.{without}
 use Rattle.search.specs.Search.{linked}
-use Rattle.search.specs.Cases.{joining, network, bridge, shown, finds, set_of, Worked}
+use Rattle.search.specs.Cases.{joining, network, bridge, shown, finds, set_of, SixNetworksSearched}
 use Rattle.scale.specs.Billionths.{held, billionths}
 use Rattle.scale.specs.NineFigures.{unit, nine, nine_figures}
 use Rattle.chance.specs.Bounds.{low, high}
@@ -49,7 +49,7 @@ door_held = network 4 (told Working 0 1 ∷ joining 0 2 ∷ joining 1 2 ∷ told
 
 pub record WorkedByHand : Type 0 where
   -- rows, vectors, tries and status of six searches
-  pub six_searches : Worked
+  pub six_searches : SixNetworksSearched
   -- the bridge: exact chance 0.02152, and its bounds in both scales
   pub exact_chance_of_the_bridge : (cut_off_chance rated_bridge parts).top * 100000 ≡ 2152 * (cut_off_chance rated_bridge parts).under
   pub low_of_the_bridge : low billionths rated_bridge.ratings bridge_cuts ≡ held 21490000

@@ -4,8 +4,6 @@
 ghost use Rattle.worked.specs.Cases.{WorkedByHand};
 
 // Ten small studies: rows, vectors, tries, status, refusals, exact chance and bounds.
-pub fn cases_hold() -> bool
+pub fn cases_hold()
     ensures { WorkedByHand }
-{
-    true
-}
+{}

@@ -4,7 +4,7 @@ ghost use Rattle.deck.specs.Left.{NextLine, lines_left};
 ghost use Rattle.std.specs.Iterator.{item_count};
 
 use crate::line::{Line, Lines};
-use crate::words::find;
+use crate::words::length_before;
 
 // All bytes but the first.
 fn tail(bytes: &[u8]) -> &[u8]
@@ -40,7 +40,7 @@ impl<'a> Iterator for Lines<'a> {
             return None;
         }
         let number = self.number;
-        let (bytes, after) = self.rest.split_at(find(self.rest, b'\n'));
+        let (bytes, after) = self.rest.split_at(length_before(self.rest, b'\n'));
         *self = Lines {
             number: number + 1,
             rest: tail(after),

@@ -6,20 +6,21 @@ ghost use Rattle.engine.specs.declared.call.Call.TheVariants.{Aim, Advance, Show
 ghost use Rattle.engine.specs.declared.call.WhichScale.{WhichScale};
 ghost use Rattle.engine.specs.Runs.{StandsAfter};
 ghost use Rattle.engine.specs.SoundRuns.{LeadsOn, BoundsEncloseTheChance};
-ghost use Rattle.engine.specs.Studies.{no_state, state_of, Kept, Forgets, set_up, set_up_answer, called, aim_answer, progress, advanced_by, advance_answer, show_answer, bounds_answer, line_answer, line_written, standing_answer};
+ghost use Rattle.engine.specs.Studies.{no_state, state_of, Kept, Forgets, set_up, set_up_answer, called, aim_answer, progress, progress_of, advanced_by, advance_answer, show_answer, bounds_answer, line_answer, line_written, standing_answer};
 
-use crate::listing::list_sets;
+use crate::listing::cuts_of;
 use crate::progress::Progress;
 use crate::questions::{check_budget, check_door};
 use crate::stage::Stage;
 use crate::study::Study;
 use chance::bounds::{Bounds, bounds_of};
 use cut_line::write_cut;
+use network::cut::Cut;
 use network::questions::check_head;
 use network::traits::{Network, RatedNetwork};
 use refusals::study_fault::StudyFault;
 use scale::Scale;
-use search::cut::{branch_set_of, node_vector_of};
+use search::cut::cut_of;
 use search::questions::first_row;
 use search::run::{run_tries, status_of};
 use search::status::Status;
@@ -38,6 +39,7 @@ impl Study {
     }
 
     // Takes the head, and leaves no aim.
+    // Stays a clause of each call: `kept` is of the study before and after it, where a ghost field sees one study alone.
     pub fn set_up<N: Network>(&mut self, network: &N, head: u32) -> Result<(), StudyFault>
         ensures answer { result ≡ set_up_answer (N.net network.now) head }
         ensures state { state_of self.new ≡ set_up (N.net network.now) head (state_of self.old) }
@@ -74,6 +76,17 @@ impl Study {
         self.stage.door().ok_or(StudyFault::NoAim)
     }
 
+    // So many tries, with the rows and the status for the door.
+    fn progress<N: Network>(&self, network: &N, door: u32, tries: u32) -> Progress
+        ensures { result ≡ progress_of (N.net network.now) door tries (state_of self.now).search.rows }
+    {
+        Progress {
+            tries,
+            rows: self.table.len(),
+            status: status_of(&self.table, network, door),
+        }
+    }
+
     // Makes tries for the door until the budget is spent or none can be made.
     fn try_up_to<N: Network>(&mut self, network: &N, door: u32, budget: u32) -> Progress
         ensures answer { result ≡ progress (N.net network.now) door budget (state_of self.old).search }
@@ -81,11 +94,7 @@ impl Study {
     {
         let tries = run_tries(&mut self.table, network, door, budget);
         self.tries += tries;
-        Progress {
-            tries,
-            rows: self.table.len(),
-            status: status_of(&self.table, network, door),
-        }
+        self.progress(network, door, tries)
     }
 
     // Makes at most so many tries, and answers how far the search has come.
@@ -113,24 +122,19 @@ impl Study {
         ensures { result ≡ standing_answer (N.net network.now) (state_of self.now) }
     {
         let door = self.door()?;
-        Ok(Progress {
-            tries: self.tries,
-            rows: self.table.len(),
-            status: status_of(&self.table, network, door),
-        })
+        Ok(self.progress(network, door, self.tries))
     }
 
     // The branch set and the node vector of row k.
+    // Stays a pair of bare words: the rules of the project fix that showing answers (u64, u32).
     pub fn show<N: Network>(&self, network: &N, k: usize) -> Result<(u64, u32), StudyFault>
         ensures answer { result ≡ show_answer (N.net network.now) k (state_of self.now) }
         ensures run { LeadsOn (N.net network.now) (Show k) (state_of self.now) (state_of self.now) }
     {
         self.door()?;
         let row = self.table.row(k).ok_or(StudyFault::NoRow)?;
-        Ok((
-            branch_set_of(network, &row).into(),
-            node_vector_of(network, &row).into(),
-        ))
+        let Cut { branches, nodes } = cut_of(network, &row);
+        Ok((branches.into(), nodes.into()))
     }
 
     // The bounds on the chance that the door is cut off.
@@ -143,10 +147,9 @@ impl Study {
         ensures chance { BoundsEncloseTheChance (N.RatedNetwork.rated network.now) S.Scale.arithmetic (state_of self.now) }
     {
         let door = self.door()?;
-        let mut sets = [0; 512];
-        list_sets(network, self.table.rows(), &mut sets);
-        let finished = matches!(status_of(&self.table, network, door), Status::Finished);
-        Ok(bounds_of::<S, N>(network, &sets[0..self.table.len()], finished))
+        let cuts = cuts_of(network, &self.table);
+        let finished = status_of(&self.table, network, door) == Status::Finished;
+        Ok(bounds_of::<S, N>(network, cuts.as_slice(), finished))
     }
 
     // Writes the CUT line of row k into the buffer, and answers its length.

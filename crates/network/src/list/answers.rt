@@ -1,5 +1,5 @@
 // What a list answers.
-ghost use Rattle.std.specs.Prelude.{◌≡◌};
+ghost use Rattle.std.specs.Prelude.{◌≡◌, refl};
 ghost use Rattle.std.specs.List.{slice_get};
 ghost use Rattle.network.specs.Meaning.{list_net, list_rated};
 ghost use Rattle.network.specs.Legality.{legal-list, legal-list_rated};
@@ -39,6 +39,8 @@ impl<'a> RatedNetwork for List<'a> {
     ghost rated = { λ s. list_rated s.nodes s.table.now };
 
     ghost legal = { λ s. legal-list_rated s.nodes s.table.now s.few s.short s.sound };
+
+    ghost same = { λ _. refl };
 
     fn rating(&self, k: u32) -> Option<Rating> {
         self.row(k).and_then(|row| row.rating())

@@ -23,6 +23,7 @@ fn check_rows(nodes: u32, table: &[TableRow]) -> Result<(), NetworkFault>
 }
 
 // The questions of a list, in their order.
+// Stays a node count beside a table: together they are a list, which holds only what has passed these.
 fn check_table(nodes: u32, table: &[TableRow]) -> Result<(), NetworkFault>
     ensures { result ≡ list_asked nodes table.now }
 {

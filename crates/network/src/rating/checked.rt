@@ -7,10 +7,12 @@ use std::fmt;
 
 impl Rating {
     // The rating of these numbers, where they are legal.
+    // Stays two bare numbers: a caller's table holds them unchecked, and this is the check.
     pub fn new(mantissa: u32, exponent: u32) -> Option<Rating>
         ensures { result ≡ checked_rating mantissa exponent }
     {
-        if mantissa > 1_000_000_000 || exponent < 9 || exponent > 18 {
+        // Stays an early return: a closure for `then` would have to state the limits again.
+        if mantissa > 1_000_000_000 || !(9..=18).contains(&exponent) {
             return None;
         }
         Some(Rating { mantissa, exponent })

@@ -1,29 +1,21 @@
 // The arithmetic of billionths, and how they are printed.
-ghost use Rattle.std.specs.Prelude.{◌≡◌, ◌+◌, ◌*◌, ◌/◌, ◌^◌, min, Some, decimal};
+ghost use Rattle.std.specs.Prelude.{◌≡◌, ◌+◌, ◌*◌, min, Some, decimal};
 ghost use Rattle.scale.specs.Billionths.{billionths};
-ghost use Rattle.scale.specs.Quotients.{ceil_div};
 ghost use Rattle.scale.specs.BillionthLaws;
 
 use crate::Scale;
 use crate::billionths::{Billionth, Billionths};
-use crate::powers::{shift_down, shift_up};
+use crate::powers::PowerOfTen;
 use network::rating::Rating;
 use std::fmt;
 
 const ONE: u64 = 1_000_000_000;
 
-// The units of a product, rounded down.
-fn units_down(x: Billionth, by: Rating) -> u64
-    ensures { result ≡ x.units * by.mantissa / 10 ^ by.exponent }
+// The exact units of a product, over the rating's power of ten.
+fn exact_units(x: Billionth, by: Rating) -> u64
+    ensures { result ≡ x.units * by.mantissa }
 {
-    shift_down(x.units * by.mantissa as u64, by.exponent)
-}
-
-// The units of a product, rounded up.
-fn units_up(x: Billionth, by: Rating) -> u64
-    ensures { result ≡ ceil_div (x.units * by.mantissa) (10 ^ by.exponent) }
-{
-    shift_up(x.units * by.mantissa as u64, by.exponent)
+    x.units * u64::from(by.mantissa)
 }
 
 // A sum is exact, or held at 1.
@@ -52,13 +44,13 @@ impl Scale for Billionths {
 
     fn times_down(x: Billionth, by: Rating) -> Billionth {
         Billionth {
-            units: units_down(x, by),
+            units: PowerOfTen::from(by).divide_down(exact_units(x, by)),
         }
     }
 
     fn times_up(x: Billionth, by: Rating) -> Billionth {
         Billionth {
-            units: units_up(x, by),
+            units: PowerOfTen::from(by).divide_up(exact_units(x, by)),
         }
     }
 
@@ -77,7 +69,7 @@ impl Scale for Billionths {
     }
 
     fn at_most(x: Billionth, y: Billionth) -> bool {
-        x.units <= y.units
+        x <= y
     }
 }
 

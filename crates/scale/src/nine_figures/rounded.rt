@@ -1,13 +1,14 @@
 // The arithmetic of nine figures, and how they are printed.
 ghost use Rattle.std.specs.Prelude.{◌≡◌, ◌+◌, ◌-◌, ◌*◌, ◌^◌, ◌<◌, ◌≤◌, ◌⊎◌, ◌++◌, Some, codes, decimal};
-ghost use Rattle.scale.specs.Fractions.{◌+ᶠ◌};
+ghost use Rattle.scale.specs.Fractions.{◌+ᶠ◌, ◌×ᶠ◌};
+ghost use Rattle.scale.specs.Arithmetic.{chance};
 ghost use Rattle.scale.specs.NineFigures.{worth, floor, ceiling, nine_figures};
 ghost use Rattle.scale.specs.NineLaws;
 
 use crate::Scale;
-use crate::nine_figures::rounding::{nought, round_down, round_up, unit};
+use crate::nine_figures::rounding::{Enclosed, enclose, nought, unit};
 use crate::nine_figures::{Decimal, NineFigures};
-use crate::powers::ten_to;
+use crate::powers::PowerOfTen;
 use network::rating::Rating;
 use std::fmt;
 
@@ -17,20 +18,24 @@ const SUM_GAP: u32 = 9;
 // Past this gap a difference takes less than a tenth of a unit of the ninth figure.
 const LESS_GAP: u32 = 10;
 
-// The sum of two numbers, over 10 to the second exponent.
-fn exact_sum(x: Decimal, y: Decimal) -> u64
-    requires { (x.exponent ≤ y.exponent) × (y.exponent ≤ x.exponent + 9) }
-    ensures { result ≡ x.figures * 10 ^ (y.exponent - x.exponent) + y.figures }
+// The numbers next to the product.
+#[inline(always)]
+fn multiply(x: Decimal, by: Rating) -> Enclosed
+    ensures down { result.down ≡ floor (worth x ×ᶠ chance by) }
+    ensures up { result.up ≡ ceiling (worth x ×ᶠ chance by) }
 {
-    x.figures * ten_to(y.exponent - x.exponent) + y.figures
+    enclose(x.figures * u64::from(by.mantissa), x.exponent + by.exponent)
 }
 
-// Their difference, over 10 to the second exponent; 0 where it would be negative.
-fn exact_difference(x: Decimal, y: Decimal) -> u64
-    requires { (x.exponent ≤ y.exponent) × (y.exponent ≤ x.exponent + 10) }
-    ensures { result ≡ x.figures * 10 ^ (y.exponent - x.exponent) - y.figures }
+// The figures of a number, over 10 to a larger exponent.
+fn figures_over(x: Decimal, exponent: u32) -> u64
+    requires { (x.exponent ≤ exponent) × (exponent ≤ x.exponent + 10) }
+    ensures { result ≡ x.figures * 10 ^ (exponent - x.exponent) }
 {
-    (x.figures * ten_to(y.exponent - x.exponent)).saturating_sub(y.figures)
+    let gap = PowerOfTen {
+        exponent: exponent - x.exponent,
+    };
+    x.figures * gap.value()
 }
 
 // Both numbers, with 0 second, and else the smaller exponent first.
@@ -45,32 +50,33 @@ fn ordered(x: Decimal, y: Decimal) -> (Decimal, Decimal)
     }
 }
 
-// The sum of two numbers in order, rounded down.
-fn add_down(x: Decimal, y: Decimal) -> Decimal
+// The numbers next to the sum of two numbers in order.
+#[inline(always)]
+fn add_ordered(x: Decimal, y: Decimal) -> Enclosed
     requires { 0 < y.figures → (100000000 ≤ x.figures) × (x.exponent ≤ y.exponent) }
-    ensures { result ≡ floor (worth x +ᶠ worth y) }
+    ensures down { result.down ≡ floor (worth x +ᶠ worth y) }
+    ensures up { result.up ≡ ceiling (worth x +ᶠ worth y) }
 {
     if y.figures == 0 {
-        return x;
+        return Enclosed::exactly(x);
     }
     if y.exponent - x.exponent > SUM_GAP {
-        return x;
+        return Enclosed {
+            down: x,
+            up: enclose(x.figures + 1, x.exponent).up,
+        };
     }
-    round_down(exact_sum(x, y), y.exponent)
+    enclose(figures_over(x, y.exponent) + y.figures, y.exponent)
 }
 
-// The sum of two numbers in order, rounded up.
-fn add_up(x: Decimal, y: Decimal) -> Decimal
-    requires { 0 < y.figures → (100000000 ≤ x.figures) × (x.exponent ≤ y.exponent) }
-    ensures { result ≡ ceiling (worth x +ᶠ worth y) }
+// The numbers next to the sum.
+#[inline(always)]
+fn add(x: Decimal, y: Decimal) -> Enclosed
+    ensures down { result.down ≡ floor (worth x +ᶠ worth y) }
+    ensures up { result.up ≡ ceiling (worth x +ᶠ worth y) }
 {
-    if y.figures == 0 {
-        return x;
-    }
-    if y.exponent - x.exponent > SUM_GAP {
-        return round_up(x.figures + 1, x.exponent);
-    }
-    round_up(exact_sum(x, y), y.exponent)
+    let (first, second) = ordered(x, y);
+    add_ordered(first, second)
 }
 
 impl Scale for NineFigures {
@@ -89,23 +95,22 @@ impl Scale for NineFigures {
     }
 
     fn times_down(x: Decimal, by: Rating) -> Decimal {
-        round_down(x.figures * by.mantissa as u64, x.exponent + by.exponent)
+        multiply(x, by).down
     }
 
     fn times_up(x: Decimal, by: Rating) -> Decimal {
-        round_up(x.figures * by.mantissa as u64, x.exponent + by.exponent)
+        multiply(x, by).up
     }
 
     fn sum_down(x: Decimal, y: Decimal) -> Decimal {
-        let (x, y) = ordered(x, y);
-        add_down(x, y)
+        add(x, y).down
     }
 
     fn sum_up(x: Decimal, y: Decimal) -> Decimal {
-        let (x, y) = ordered(x, y);
-        add_up(x, y)
+        add(x, y).up
     }
 
+    // Stays a test for 0 in each operation: 0 has an exponent of its own, and each operation answers it in its own way.
     fn less_down(x: Decimal, y: Decimal) -> Decimal {
         if y.figures == 0 {
             return x;
@@ -117,9 +122,10 @@ impl Scale for NineFigures {
             return nought();
         }
         if y.exponent - x.exponent > LESS_GAP {
-            return round_down(x.figures * 10 - 1, x.exponent + 1);
+            return enclose(x.figures * 10 - 1, x.exponent + 1).down;
         }
-        round_down(exact_difference(x, y), y.exponent)
+        let left = figures_over(x, y.exponent).saturating_sub(y.figures);
+        enclose(left, y.exponent).down
     }
 
     fn at_most(x: Decimal, y: Decimal) -> bool {

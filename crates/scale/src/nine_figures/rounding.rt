@@ -5,7 +5,7 @@ ghost use Rattle.scale.specs.FractionOrder.{◌<ᶠ◌};
 ghost use Rattle.scale.specs.NineFigures.{nought, unit, floor, ceiling};
 
 use crate::nine_figures::Decimal;
-use crate::powers::{shift_down, shift_up, ten_to};
+use crate::powers::PowerOfTen;
 
 // The least and the first past the greatest number of nine figures.
 const NINE: u64 = 100_000_000;
@@ -35,105 +35,120 @@ pub(crate) fn unit() -> Decimal
     }
 }
 
-// The first nine figures of a number, rounded down, and rounded up to the next where anything is cut off.
+// The largest number that is not above a fraction, and the smallest that is not below it; 1 of a fraction past 1.
 #[derive(Clone, Copy)]
-struct Cut {
+pub(crate) struct Enclosed {
+    pub(crate) down: Decimal,
+    pub(crate) up: Decimal,
+}
+
+impl Enclosed {
+    // Of a fraction that is a number itself.
+    pub(crate) fn exactly(x: Decimal) -> Enclosed
+        ensures down { result.down ≡ x }
+        ensures up { result.up ≡ x }
+    {
+        Enclosed { down: x, up: x }
+    }
+}
+
+// The first nine figures of a fraction below 1, rounded down, and rounded up to the next where anything is cut off.
+#[derive(Clone, Copy)]
+struct FirstNine {
     down: u64,
     up: u64,
     exponent: u32,
+    ghost nine: { (100000000 ≤ down) × (down < 1000000000) },
+    ghost next: { (down ≤ up) × (up ≤ down + 1) },
+    ghost below_one: { 8 < exponent },
 }
 
-// Of figures / 10^exponent, where the first figure is that of 10^first, and the whole is below 1.
-fn first_nine(figures: u64, first: u32, exponent: u32) -> Cut
-    requires at_first { (10 ^ first ≤ figures) × (figures < 10 * 10 ^ first) }
-    requires below_one { (first < 20) × (first < exponent) × (exponent ≤ 100) }
-    ensures nine { (100000000 ≤ result.down) × (result.down < 1000000000) × (8 < result.exponent) }
-    ensures not_above { decimal result.down result.exponent ≤ᶠ decimal figures exponent }
-    ensures last { decimal figures exponent <ᶠ decimal (result.down + 1) result.exponent }
-    ensures up { (result.up ≡ result.down) × (decimal figures exponent =ᶠ decimal result.down result.exponent) ⊎ (result.up ≡ result.down + 1) × (decimal result.down result.exponent <ᶠ decimal figures exponent) }
-{
-    if first < WHOLE {
-        let missing = WHOLE - first;
-        let grown = figures * ten_to(missing);
-        return Cut {
-            down: grown,
-            up: grown,
-            exponent: exponent + missing,
+impl FirstNine {
+    // Of figures / 10^exponent, where the first figure is that of 10^first.
+    #[inline(always)]
+    fn of(figures: u64, first: u32, exponent: u32) -> FirstNine
+        requires at_first { (10 ^ first ≤ figures) × (figures < 10 * 10 ^ first) }
+        requires below_one { (first < 20) × (first < exponent) × (exponent ≤ 100) }
+        ensures not_above { decimal result.down result.exponent ≤ᶠ decimal figures exponent }
+        ensures last { decimal figures exponent <ᶠ decimal (result.down + 1) result.exponent }
+        ensures up { (result.up ≡ result.down) × (decimal figures exponent =ᶠ decimal result.down result.exponent) ⊎ (result.up ≡ result.down + 1) × (decimal result.down result.exponent <ᶠ decimal figures exponent) }
+    {
+        if first < WHOLE {
+            let missing = PowerOfTen {
+                exponent: WHOLE - first,
+            };
+            let grown = figures * missing.value();
+            return FirstNine {
+                down: grown,
+                up: grown,
+                exponent: exponent + missing.exponent,
+            };
+        }
+        let surplus = PowerOfTen {
+            exponent: first - WHOLE,
         };
+        FirstNine {
+            down: surplus.divide_down(figures),
+            up: surplus.divide_up(figures),
+            exponent: exponent - surplus.exponent,
+        }
     }
-    let surplus = first - WHOLE;
-    Cut {
-        down: shift_down(figures, surplus),
-        up: shift_up(figures, surplus),
-        exponent: exponent - surplus,
+
+    // The smallest number that is not below the figures rounded up.
+    #[inline(always)]
+    fn number_above(self) -> Decimal
+        ensures { result ≡ ceiling (decimal self.up self.exponent) }
+    {
+        if self.exponent > LAST {
+            return Decimal {
+                figures: NINE,
+                exponent: LAST,
+            };
+        }
+        if self.up == TEN {
+            return Decimal {
+                figures: NINE,
+                exponent: self.exponent - 1,
+            };
+        }
+        Decimal {
+            figures: self.up,
+            exponent: self.exponent,
+        }
+    }
+
+    // The largest number that is not above the figures rounded down.
+    #[inline(always)]
+    fn number_below(self) -> Decimal
+        ensures { result ≡ floor (decimal self.down self.exponent) }
+    {
+        if self.exponent > LAST {
+            return nought();
+        }
+        Decimal {
+            figures: self.down,
+            exponent: self.exponent,
+        }
     }
 }
 
-// The largest number that is not above m / 10^e, which is below 1 and has nine figures.
-fn place_down(m: u64, e: u32) -> Decimal
-    requires { (100000000 ≤ m) × (m < 1000000000) × (8 < e) }
-    ensures { result ≡ floor (decimal m e) }
-{
-    if e > LAST {
-        return nought();
-    }
-    Decimal {
-        figures: m,
-        exponent: e,
-    }
-}
-
-// The smallest number that is not below m / 10^e, which has nine figures or is 10^9 / 10^e.
-fn place_up(m: u64, e: u32) -> Decimal
-    requires { (100000000 ≤ m) × (m ≤ 1000000000) × (8 < e) }
-    ensures { result ≡ ceiling (decimal m e) }
-{
-    if e > LAST {
-        return Decimal {
-            figures: NINE,
-            exponent: LAST,
-        };
-    }
-    if m == TEN {
-        return Decimal {
-            figures: NINE,
-            exponent: e - 1,
-        };
-    }
-    Decimal {
-        figures: m,
-        exponent: e,
-    }
-}
-
-// The largest number that is not above figures / 10^exponent.
-pub(crate) fn round_down(figures: u64, exponent: u32) -> Decimal
+// The numbers next to figures / 10^exponent.
+#[inline(always)]
+pub(crate) fn enclose(figures: u64, exponent: u32) -> Enclosed
     requires { exponent ≤ 100 }
-    ensures { result ≡ floor (decimal figures exponent) }
+    ensures down { result.down ≡ floor (decimal figures exponent) }
+    ensures up { result.up ≡ ceiling (decimal figures exponent) }
 {
     if figures == 0 {
-        return nought();
+        return Enclosed::exactly(nought());
     }
     let first = figures.ilog10();
     if first >= exponent {
-        return unit();
+        return Enclosed::exactly(unit());
     }
-    let cut = first_nine(figures, first, exponent);
-    place_down(cut.down, cut.exponent)
-}
-
-// The smallest number that is not below figures / 10^exponent, and 1 where that is above 1.
-pub(crate) fn round_up(figures: u64, exponent: u32) -> Decimal
-    requires { exponent ≤ 100 }
-    ensures { result ≡ ceiling (decimal figures exponent) }
-{
-    if figures == 0 {
-        return nought();
+    let nine = FirstNine::of(figures, first, exponent);
+    Enclosed {
+        down: nine.number_below(),
+        up: nine.number_above(),
     }
-    let first = figures.ilog10();
-    if first >= exponent {
-        return unit();
-    }
-    let cut = first_nine(figures, first, exponent);
-    place_up(cut.up, cut.exponent)
 }

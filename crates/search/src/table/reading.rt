@@ -19,11 +19,7 @@ impl Table {
     pub fn row(&self, k: usize) -> Option<Row>
         ensures { result ≡ slice_get (rows_of self.now) k }
     {
-        if k < self.len() {
-            Some(self.rows[k])
-        } else {
-            None
-        }
+        self.rows().get(k).copied()
     }
 
     // The rows, in the order in which they were written.

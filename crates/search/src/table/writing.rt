@@ -51,6 +51,7 @@ impl Table {
         requires { k < length (rows_of self.old) }
         ensures { rows_of self.new ≡ barred_at k v (rows_of self.old) }
     {
+        // Stays an assignment: behind an index the proof of an insert does not close.
         self.rows[k].barred = self.rows[k].barred | NodeSet::single(v);
     }
 }

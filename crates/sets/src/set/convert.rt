@@ -7,7 +7,7 @@ impl From<u32> for NodeSet {
     ghost from_gives = { λ word set. set ≡ word };
 
     fn from(word: u32) -> NodeSet {
-        Set { word }
+        Set::of(word as u64)
     }
 }
 
@@ -15,7 +15,7 @@ impl From<NodeSet> for u32 {
     ghost from_gives = { λ set word. word ≡ set };
 
     fn from(set: NodeSet) -> u32 {
-        set.word
+        set.word as u32
     }
 }
 
@@ -23,7 +23,7 @@ impl From<u64> for BranchSet {
     ghost from_gives = { λ word set. set ≡ word };
 
     fn from(word: u64) -> BranchSet {
-        Set { word }
+        Set::of(word)
     }
 }
 

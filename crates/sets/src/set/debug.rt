@@ -1,9 +1,9 @@
 // A set in words, as `{0, 2}`.
 use crate::set::Set;
-use crate::word::Word;
+use crate::width::Width;
 use std::fmt;
 
-impl<W: Word> fmt::Debug for Set<W> {
+impl<W: Width> fmt::Debug for Set<W> {
     fn fmt<F: fmt::Write>(&self, f: &mut fmt::Formatter<F>) -> fmt::Result {
         f.debug_set().entries(*self).finish()
     }

@@ -4,16 +4,16 @@ ghost use Rattle.std.specs.Iterator.{YieldsFirst, item_count};
 ghost use Rattle.sets.specs.Masks.{members};
 
 use crate::set::Set;
-use crate::word::Word;
+use crate::width::Width;
 use std::marker::Model;
 
 // Gives the members that are left, rising. A contract sees the list of these.
 #[derive(Drop)]
-pub struct Members<W: Word> {
+pub struct Members<W: Width> {
     rest: Set<W>,
 }
 
-impl<W: Word> Model for Members<W> {
+impl<W: Width> Model for Members<W> {
     ghost use Rattle.std.specs.Prelude.{ℕ, List};
     ghost use Rattle.sets.specs.Masks.{members};
 
@@ -22,7 +22,7 @@ impl<W: Word> Model for Members<W> {
     ghost view = { λ s. members W.BITS s.rest };
 }
 
-impl<W: Word> Iterator for Members<W> {
+impl<W: Width> Iterator for Members<W> {
     type Item = u32;
 
     ghost next_gives = { YieldsFirst (λ rest. rest) };
@@ -36,7 +36,7 @@ impl<W: Word> Iterator for Members<W> {
     }
 }
 
-impl<W: Word> IntoIterator for Set<W> {
+impl<W: Width> IntoIterator for Set<W> {
     type Item = u32;
 
     type IntoIter = Members<W>;

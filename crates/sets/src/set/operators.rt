@@ -3,41 +3,35 @@ ghost use Rattle.std.specs.Prelude.{◌≡◌, not, ◌&&◌, bit_and, bit_or};
 ghost use Rattle.sets.specs.Masks.{has, collect};
 
 use crate::set::Set;
-use crate::word::Word;
+use crate::width::Width;
 use std::ops::{BitAnd, BitOr, Sub};
 
-impl<W: Word> BitOr for Set<W> {
+impl<W: Width> BitOr for Set<W> {
     type Output = Set<W>;
 
     ghost bitor_gives = { λ a b r. r ≡ bit_or a b };
 
     fn bitor(self, other: Set<W>) -> Set<W> {
-        Set {
-            word: self.word.or(other.word),
-        }
+        Set::of(self.word | other.word)
     }
 }
 
-impl<W: Word> BitAnd for Set<W> {
+impl<W: Width> BitAnd for Set<W> {
     type Output = Set<W>;
 
     ghost bitand_gives = { λ a b r. r ≡ bit_and a b };
 
     fn bitand(self, other: Set<W>) -> Set<W> {
-        Set {
-            word: self.word.and(other.word),
-        }
+        Set::of(self.word & other.word)
     }
 }
 
-impl<W: Word> Sub for Set<W> {
+impl<W: Width> Sub for Set<W> {
     type Output = Set<W>;
 
     ghost sub_gives = { λ a b r. r ≡ collect W.BITS (λ v. has a v && not (has b v)) };
 
     fn sub(self, other: Set<W>) -> Set<W> {
-        Set {
-            word: self.word.and(other.word.not()),
-        }
+        Set::of(self.word & !other.word)
     }
 }

@@ -22,7 +22,7 @@ impl Scale for TwoValues {
     }
 
     fn times_down(x: Extreme, by: Rating) -> Extreme {
-        if by.mantissa as u64 >= 10u64.pow(by.exponent) {
+        if u64::from(by.mantissa) >= 10u64.pow(by.exponent) {
             return x;
         }
         Extreme::Never

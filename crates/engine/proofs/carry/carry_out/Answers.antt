@@ -14,4 +14,4 @@ returns-clause-run g c =
     let accepted : set_up_answer (g.N.Network.net network) c.args.head ≡ Ok tt = search rules in
     carried-out (g.N.RatedNetwork.rated network) (g.N.RatedNetwork.legal network) c.args.head g.S.Scale.arithmetic g.met.S.Scale.rounded g.T.Scale.arithmetic g.met.T.Scale.rounded c.args.asked.now
     c.loop-place.asked c.args.buffer.now c.loop-place.buffer (state_of c.args.study.now) (state_of c.set_up.new.self) (state_of c.loop-place.study) c.loop-place.place-index c.loop-place-test.false
-    (omega arith) _ c.ask_rating.ensures accepted c.set_up.ensures.state c.loop-place.invariant
+    (omega arith) _ (g.met.N.RatedNetwork.same network) accepted c.set_up.ensures.state c.loop-place.invariant

@@ -1,4 +1,4 @@
-use Rattle.std.proofs.Common.{sym, ◌∙◌, length, length-append}
+use Rattle.std.proofs.Common.{sym, refl, ◌∙◌, length, length-append}
 use Rattle.network.proofs.Numbered.{given_none, given-all, given-next}
 use Rattle.sets.proofs.Nth.{below-some}
 use Rattle.sets.proofs.Shifts.{collect-none, collect-no}
@@ -23,7 +23,7 @@ loop-k-preserved-then-is_parted g c =
     let net = g.N.Network.net c.args.network.now in
     let K = c.args.row.now.inside in
     let next = given-next net.branches _ _ c.loop-k.invariant.0 _ _ _ c.in-Some.ensures.steps in
-    simp length-append (next.2, c.bitor-set.ensures ∙ crossed-more net (g.N.Network.legal c.args.network.now) K _ c.loop-k.set c.single.result (below-some net.branches _ _ next.1) (crossing_is net K _ c.in-Some.b next.1 ∙ sym c.if-is_parted.ensures) c.loop-k.invariant.1 (rw (sym next.0) c.single.ensures))
+    simp length-append (next.2, c.insert.ensures ∙ crossed-more net (g.N.Network.legal c.args.network.now) K _ c.loop-k.set _ (below-some net.branches _ _ next.1) (crossing_is net K _ c.in-Some.b next.1 ∙ sym c.if-is_parted.ensures) c.loop-k.invariant.1 (rw (sym next.0) refl))
 
 pub returns : goal.returns
 returns g c =

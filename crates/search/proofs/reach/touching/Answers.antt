@@ -12,13 +12,13 @@ pub loop-b-preserved : goal.loop-b-preserved
 loop-b-preserved g c =
     let net = g.N.Network.net c.args.network.now in
     let next = given-next net.branches _ _ c.loop-b.invariant.0 _ _ _ c.in-Some.ensures.steps in
-    simp length-append (next.2, met-no c.args.over net c.args.set _ c.loop-b.met c.in-Some.b next.1 (sym c.if-is_usable.ensures) c.loop-b.invariant.1)
+    simp length-append (next.2, met-no c.args.over net c.args.set _ c.loop-b.met c.in-Some.b next.1 (sym c.if-allows.ensures) c.loop-b.invariant.1)
 
-pub loop-b-preserved-then-is_usable : goal.loop-b-preserved-then-is_usable
-loop-b-preserved-then-is_usable g c =
+pub loop-b-preserved-then-allows : goal.loop-b-preserved-then-allows
+loop-b-preserved-then-allows g c =
     let net = g.N.Network.net c.args.network.now in
     let next = given-next net.branches _ _ c.loop-b.invariant.0 _ _ _ c.in-Some.ensures.steps in
-    simp length-append (next.2, c.bitor-met.ensures ∙ met-yes c.args.over net c.args.set _ c.loop-b.met _ c.in-Some.b next.1 (sym c.if-is_usable.ensures) c.loop-b.invariant.1 c.joined_by.ensures)
+    simp length-append (next.2, c.bitor-met.ensures ∙ met-yes c.args.over net c.args.set _ c.loop-b.met _ c.in-Some.b next.1 (sym c.if-allows.ensures) c.loop-b.invariant.1 c.joined_by.ensures)
 
 pub returns : goal.returns
 returns g c =

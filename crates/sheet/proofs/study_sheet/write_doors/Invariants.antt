@@ -9,4 +9,4 @@ use Rattle.sheet.proofs.study_sheet.write_doors.Given as goal
 abbrev pub invariant-loop-door : goal.invariant-loop-door
 invariant-loop-door g l =
     (doors_in (cards l.bytes) ≡ l.yielded ++ doors_left l.door-iterator)
-    × (string_bytes l.text ≡ string_bytes l.initial.text ++ door_texts (g.N.RatedNetwork.rated l.network).plain (g.N.RatedNetwork.rated l.network).ratings l.head l.yielded)
+    × (string_bytes l.text ≡ string_bytes l.initial.text ++ door_texts (g.N.RatedNetwork.rated l.network) l.head l.yielded)

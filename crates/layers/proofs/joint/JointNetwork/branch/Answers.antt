@@ -19,8 +19,8 @@ returns-then-k-count g c =
     let meaning = c.branch-self.ensures ∙ nth-joint-first s.node first second c.if-not-joinable.ensures c.args.k (omega arith) in
     record { meaning = meaning; law = rw meaning (joined-branch s.node first second c.args.k) }
 
-pub moved_at-requires : goal.moved_at-requires
-moved_at-requires g c = let p = g.P.Network.legal c.args.self.now.first in omega arith
+pub invariant_of-renumbering : goal.invariant_of-renumbering
+invariant_of-renumbering g c = let p = g.P.Network.legal c.args.self.now.first in omega arith
 
 pub returns : goal.returns
 returns g c =
@@ -28,6 +28,6 @@ returns g c =
     let first = g.P.Network.net s.first in
     let second = g.Q.Network.net s.second in
     let meaning =
-    c.moved_at.ensures
+    c.branch-renumbering.ensures
     ∙ nth-joint-second s.node first second c.if-not-joinable.ensures c.args.k _ _ c.branches-count.ensures c.if-k-count.false c.nodes.ensures in
     record { meaning = meaning; law = rw meaning (joined-branch s.node first second c.args.k) }

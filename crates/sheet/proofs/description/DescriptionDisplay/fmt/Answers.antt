@@ -10,6 +10,6 @@ use Rattle.sheet.proofs.description.DescriptionDisplay.fmt.Goals as goal
 pub returns-in_ok-write-in-Ok-clause-writes : goal.returns-in_ok-write-in-Ok-clause-writes
 returns-in_ok-write-in-Ok-clause-writes g c = λ p ok.
     let net = list_rated c.in-Ok.list.nodes c.in-Ok.list.table.now in
-    let network = network_text net.plain net.ratings c.in-Ok.head in
+    let network = network_text net c.in-Ok.head in
     has_written_of_eq _ _ _ _ _ (accepted-text c.args.self.now.bytes.now net c.in-Ok.head c.in-Ok.ensures)
     (has_written_append _ _ network c.write.new.self (door_lines (doors_in (cards c.args.self.now.bytes.now))) _ (search rules) (search rules))

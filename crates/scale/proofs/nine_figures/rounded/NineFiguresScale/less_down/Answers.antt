@@ -1,4 +1,4 @@
-use Rattle.std.proofs.Common.{ap, ◌∙◌, arith}
+use Rattle.std.proofs.Common.{◌-◌, ap, ◌∙◌, arith}
 use Rattle.scale.specs.Fractions.{decimal}
 use Rattle.scale.specs.NineFigures.{floor}
 use Rattle.scale.specs.NineForms.{some-figures}
@@ -16,8 +16,8 @@ returns-then-x-y c = c.nought.ensures ∙ smaller-less-floor c.args.x c.args.y (
 
 pub returns-then-y-x-gt-LESS_GAP : goal.returns-then-y-x-gt-LESS_GAP
 returns-then-y-x-gt-LESS_GAP c =
-    c.round_down.ensures ∙ less-far-floor c.args.x c.args.y (omega arith) (some-figures c.args.x (omega arith)) (omega arith) (omega arith)
+    c.enclose.ensures.down ∙ less-far-floor c.args.x c.args.y (omega arith) (some-figures c.args.x (omega arith)) (omega arith) (omega arith)
 
 pub returns : goal.returns
 returns c =
-    c.round_down-2.ensures ∙ ap (λ n. floor (decimal n c.args.y.exponent)) c.exact_difference.ensures ∙ less-near-floor c.args.x c.args.y (omega arith)
+    c.enclose-2.ensures.down ∙ ap (λ n. floor (decimal n c.args.y.exponent)) (c.saturating_sub-left.ensures ∙ ap (λ n. n - c.args.y.figures) c.figures_over.ensures) ∙ less-near-floor c.args.x c.args.y (omega arith)

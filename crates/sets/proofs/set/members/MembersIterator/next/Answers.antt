@@ -12,6 +12,6 @@ returns-clause-steps g c = sym c.self.view_is ∙ next-some _ _ _ _ _ c.in_ok-fi
 
 pub returns-clause-goes : goal.returns-clause-goes
 returns-clause-goes g c =
-    let more : c.args.self.now ≡ c.in_ok-first.first ∷ members g.W.Word.BITS c.sub-self-inside.result =
+    let more : c.args.self.now ≡ c.in_ok-first.first ∷ members g.W.Width.BITS c.sub-self-inside.result =
     sym c.self.view_is ∙ next-some _ _ _ _ _ c.in_ok-first.ensures c.single.ensures c.sub-self-inside.ensures in
     search rules
