@@ -2,7 +2,7 @@
 // as numbers, bit k for branch k.
 #![tactic(auto)]
 
-use anyhow::{anyhow, bail};
+use anyhow::{Context, bail};
 use chance::bounds::{Bounds, bounds_of};
 use network::branch::TableRow;
 use network::cut::Cut;
@@ -16,7 +16,7 @@ use std::fs;
 use std::io::{BufRead, BufReader};
 use std::rt::Files;
 
-// Stays a print for each scale: the words and the type of the numbers differ, and two lines are all that there is.
+// Stays a print for each scale: words and type differ, and the lines of the sheet are of answers, not of bare bounds.
 fn tell_bounds<N: RatedNetwork>(
     rt: &impl Print,
     network: &N,
@@ -50,9 +50,10 @@ fn tell_case(rt: &(impl Files + Print + AllocGlobal), line: &str) -> anyhow::Res
     };
     let bytes = fs::read(rt, *file)?;
     let mut table = [TableRow::default(); 64];
-    let (network, _) = read_network(&bytes, &mut table).map_err(|_| anyhow!(
-        "the deck is refused"
-    ))?;
+    // Stays in both programs that read the network of a deck: the list borrows the table, which a function could not hand out.
+    let (network, _) = read_network(&bytes, &mut table)
+        .ok()
+        .context("the deck is refused")?;
     let cuts = cuts_in(rt.alloc(), sets)?;
     tell_bounds(rt, &network, &cuts, *status == "FINISHED")
 }

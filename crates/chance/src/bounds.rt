@@ -12,20 +12,21 @@ use network::traits::RatedNetwork;
 use scale::Scale;
 use sets::set::BranchSet;
 
+/// A low and a high bound, in one scale.
 #[derive(Clone, Copy)]
 pub struct Bounds<T> {
     pub low: T,
     pub high: T,
 }
 
-// The sum, and the up product of two rows united.
+// Adds to the sum the up product of two rows united.
 fn add_pair<S: Scale>(ratings: &Ratings, first: BranchSet, second: BranchSet, sum: S::Num) -> S::Num
     ensures { result ≡ S.Scale.arithmetic.sum_up sum (product_up S.Scale.arithmetic ratings.now (bit_or first second)) }
 {
     S::sum_up(sum, ratings.product_up::<S>(first | second))
 }
 
-// The sum, and the up products of a row united with each row before it.
+// Adds to the sum the up products of a row united with each row before it.
 fn add_pairs<S: Scale>(ratings: &Ratings, earlier: &[Cut], set: BranchSet, sum: S::Num) -> S::Num
     ensures { result ≡ added_up S.Scale.arithmetic ratings.now sum (map (λ row. bit_or row set) (branch_sets earlier.now)) }
 {
@@ -50,10 +51,7 @@ fn better<S: Scale>(best: Option<S::Num>, next: S::Num) -> S::Num
 fn high_bound<S: Scale>(finished: bool, sum: S::Num) -> S::Num
     ensures { result ≡ (if finished then sum else S.Scale.arithmetic.one) }
 {
-    if finished {
-        return sum;
-    }
-    S::one()
+    if finished { sum } else { S::one() }
 }
 
 // The bounds of the rows, in listing order, from the ratings by branch number.
@@ -61,6 +59,7 @@ fn bounds_from<S: Scale>(ratings: &Ratings, rows: &[Cut], finished: bool) -> Bou
     ensures low { result.low ≡ low_of S.Scale.arithmetic ratings.now (branch_sets rows.now) }
     ensures high { result.high ≡ high_of S.Scale.arithmetic ratings.now finished (branch_sets rows.now) }
 {
+    // S1 and S2 of the rows so far, the best difference, and the sum of up products
     let mut s1 = S::zero();
     let mut s2 = S::zero();
     let mut low = None;
@@ -77,8 +76,8 @@ fn bounds_from<S: Scale>(ratings: &Ratings, rows: &[Cut], finished: bool) -> Bou
     }
 }
 
-// The bounds of the rows, in listing order; the high bound is 1 until the search is finished.
-// Stays a bool beside the rows: whether they are all is one answer of the search, which this crate does not know.
+/// The bounds of the rows, in listing order; the high bound is 1 until the search is finished.
+// Stays a bool beside the rows: the status of a search is a type of the search, on which this crate does not stand.
 pub fn bounds_of<S: Scale, N: RatedNetwork>(
     network: &N,
     rows: &[Cut],
@@ -92,7 +91,7 @@ pub fn bounds_of<S: Scale, N: RatedNetwork>(
     bounds_from::<S>(&Ratings::of(network), rows, finished)
 }
 
-// More rows only narrow the bounds, in every scale with numbers of type T.
+/// More rows only narrow the bounds, in every scale with numbers of type T.
 pub fn bounds_narrow<T>()
     ensures { Narrowing T }
 {}

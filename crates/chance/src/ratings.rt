@@ -32,6 +32,7 @@ fn rating_of(ratings: &[Rating], branch: u32) -> Option<Rating>
 }
 
 impl Ratings {
+    // Asks the network once for the rating of each branch.
     pub(crate) fn of<N: RatedNetwork>(network: &N) -> Ratings
         ensures { result ≡ (N.RatedNetwork.rated network.now).ratings }
     {
@@ -46,7 +47,7 @@ impl Ratings {
     }
 
     // The product of a branch set, each step rounded down.
-    // Stays a pair of short functions: one text would take the step as a closure, with a contract longer than both.
+    // Stays a pair of short functions: the contract of a fold over any step is longer than both.
     pub(crate) fn product_down<S: Scale>(&self, set: BranchSet) -> S::Num
         ensures { result ≡ product_down S.Scale.arithmetic self.now set }
     {

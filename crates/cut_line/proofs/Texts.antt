@@ -1,21 +1,11 @@
 -- The numbers of a line, one after another.
-use Rattle.std.proofs.Common.{◌≡◌, ℕ, zero, suc, ◌+◌, ◌*◌, ◌/◌, ◌%◌, ◌<◌, ◌≤◌, List, [], ◌∷◌, ◌++◌, length, decimal, sym, refl, ap, ◌∙◌, append_assoc, append-nil, subst, arith, length-append}
+use Rattle.std.proofs.Common.{◌≡◌, ℕ, zero, suc, ◌+◌, ◌*◌, ◌<◌, ◌≤◌, List, [], ◌∷◌, ◌++◌, length, decimal, sym, refl, ap, ◌∙◌, append_assoc, subst, arith, length-append}
 use Rattle.std.specs.List.{AllByRecursion}
 use Rattle.std.proofs.ByRecursion.{All-append, All-weaker}
 use Rattle.std.proofs.lemmas.Bool.{cond_both}
-use Rattle.std.proofs.lemmas.Fmt.{decimal_digit, decimal_step, length-decimal-le}
+use Rattle.std.proofs.lemmas.Fmt.{length-decimal-le}
 use Rattle.cut_line.specs.Cuts.{spaced}
 use Rattle.sets.specs.Masks.{has, members}
-
-pub one-digit : (old : List ℕ) (n : ℕ) → n < 10 → (old ++ 32 ∷ []) ++ (48 + n % 10) ∷ [] ≡ old ++ spaced (n ∷ [])
-one-digit old n h =
-    let e : n % 10 ≡ n = omega arith in
-    rw e (append_assoc old (32 ∷ []) _ ∙ ap (λ ds. old ++ 32 ∷ ds) (sym (append-nil (decimal n) ∙ decimal_digit n h)))
-
-pub two_digits : (old : List ℕ) (n : ℕ) → 10 ≤ n → n < 100 → ((old ++ 32 ∷ []) ++ (48 + n / 10) ∷ []) ++ (48 + n % 10) ∷ [] ≡ old ++ spaced (n ∷ [])
-two_digits old n l h =
-    append_assoc (old ++ 32 ∷ []) _ _ ∙ append_assoc old (32 ∷ []) _
-    ∙ ap (λ ds. old ++ 32 ∷ ds) (sym (append-nil (decimal n) ∙ decimal_step n l (omega arith) ∙ ap (λ ds. ds ++ ((48 + n % 10) ∷ [])) (decimal_digit (n / 10) (omega arith))))
 
 pub spaced-append : (ms ns : List ℕ) → spaced (ms ++ ns) ≡ spaced ms ++ spaced ns
 spaced-append [] ns = refl

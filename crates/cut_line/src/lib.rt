@@ -11,7 +11,7 @@ use refusals::study_fault::StudyFault;
 use sets::set::{BranchSet, NodeSet, Set};
 use sets::width::Width;
 
-// Every line has room in this: 3 bytes for each of 64 branches and of 32 nodes, and 6 more.
+/// Every line has room in this: 3 bytes for each of 64 branches and of 32 nodes, and 6 more.
 pub type Line = ArrayString<320>;
 
 // Appends a space and a number of at most two digits.
@@ -20,12 +20,8 @@ fn push_number(line: &mut Line, n: u32)
     requires small { n < 100 }
     ensures { line.new.bytes ≡ line.old.bytes ++ spaced (n ∷ []) }
 {
-    let n = n as u8;
     line.push(' ');
-    if n >= 10 {
-        line.push(char::from(b'0' + n / 10));
-    }
-    line.push(char::from(b'0' + n % 10));
+    line.push_str(itoa::Buffer::new().format(n));
 }
 
 // Appends the members of a set, rising, each after a space.
@@ -39,8 +35,8 @@ fn push_members<W: Width>(line: &mut Line, set: Set<W>)
     }
 }
 
-// The CUT line of a branch set and a node vector, with its byte 10.
-// Stays a pair of bare words: the rules fix that a shown row is (u64, u32).
+/// The CUT line of a branch set and a node vector, with its byte 10.
+// Stays a pair of bare words, here and in write_cut: a shown row is handed on as the rules fix it, (u64, u32).
 pub fn line_of(branches: u64, nodes: u32) -> Line
     ensures { result.bytes ≡ cut_line branches nodes }
 {
@@ -53,8 +49,8 @@ pub fn line_of(branches: u64, nodes: u32) -> Line
     line
 }
 
-// Writes the CUT line into a buffer, and answers its length. A buffer of fewer than 320 bytes is refused and stays as it
-// was; the bytes after the line stay in any case.
+/// Writes the CUT line into a buffer, and answers its length. A buffer of fewer than 320 bytes is refused with 13 and stays
+/// as it was; the bytes after the line stay in any case.
 pub fn write_cut(out: &mut [u8], branches: u64, nodes: u32) -> Result<usize, StudyFault>
     ensures answer { result ≡ cut_length branches nodes (length out.old) }
     ensures bytes { out.new ≡ cut_written branches nodes out.old }

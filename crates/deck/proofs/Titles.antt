@@ -1,9 +1,12 @@
 -- The words of a line, from the word that a slice pattern found at its front.
-use Rattle.std.proofs.Common.{◌≡◌, ℕ, true, false, eqb, List, [], ◌∷◌, ◌++◌, take, drop, Some, None, sym, refl, ap, ◌∙◌, ⊎_elim, take-append-drop}
+use Rattle.std.proofs.Common.{◌≡◌, ℕ, true, false, eqb, List, [], ◌∷◌, ◌++◌, take, drop, Some, None, Ok, Err, Result, MatchResult, sym, refl, ap, ◌∙◌, ⊎_elim, take-append-drop}
 use Rattle.std.proofs.lemmas.Bool.{eqb-true, cases_Bool, and_parts, cond-false, both_ways}
 use Rattle.deck.specs.Words.{words, length_before, ends_word, tail_words, numbers_in}
 use Rattle.deck.specs.Cards.{Keyword, nodes, branch, failed, working, door, spelled, numbers_for, same, keyword_for, unknown, card, card_by, card_on}
-use Rattle.deck.specs.Drafts.{Begins, Untitled}
+use Rattle.refusals.specs.declared.deck_fault.DeckFault.{DeckFault}
+use Rattle.refusals.specs.declared.deck_fault.DeckFault.TheVariants.{Word}
+use Rattle.deck.specs.Drafts.{Begins, Lacks, Titled, Untitled}
+use Rattle.deck.specs.declared.card.Card.{Card}
 use Rattle.deck.proofs.Pieces.{first_word, word-ends}
 
 ends_words : (rest : List ℕ) → ends_word rest ≡ true → words rest ≡ [] ∷ tail_words rest
@@ -45,3 +48,19 @@ module _ (bs : List ℕ) (un : Untitled bs) where
 
   pub untitled-card : card_on (words bs) ≡ unknown
   untitled-card = ap card_on (first_word bs) ∙ ap (λ o. card_by o (tail_words (drop (length_before 32 bs) bs))) no-keyword
+
+-- none of the five words, where the first two are lacking and an answer speaks of the other three
+pub two-lacked : (bs : List ℕ) (line : ℕ) (r : Result Card DeckFault) → Lacks nodes bs → Lacks branch bs
+    → MatchResult r (λ found. Titled bs line found) (λ fault. (fault ≡ Word) × (Lacks failed bs × Lacks working bs × Lacks door bs))
+    → MatchResult r (λ found. Titled bs line found) (λ fault. (fault ≡ Word) × Untitled bs)
+two-lacked bs line (Ok found) no_nodes no_branch h = h
+two-lacked bs line (Err fault) no_nodes no_branch h = (
+  h.0,
+  λ k. elim k as (λ k. Lacks k bs) [
+    | nodes ↦ no_nodes
+    | branch ↦ no_branch
+    | failed ↦ h.1.0
+    | working ↦ h.1.1
+    | door ↦ h.1.2
+  ],
+)

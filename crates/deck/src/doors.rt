@@ -10,7 +10,7 @@ ghost use Rattle.deck.specs.Left.{doors_left};
 use crate::card::{Card, card_of};
 use crate::line::{Line, Lines};
 
-// Goes through the lines of a deck.
+/// Goes through the lines of a deck.
 #[derive(Clone, Copy, Debug)]
 pub struct Doors<'a> {
     lines: Lines<'a>,
@@ -20,19 +20,15 @@ pub struct Doors<'a> {
 fn door_of(line: Line<'_>) -> Option<u32>
     ensures { result ≡ door_on (card_on (words line.entry.bytes.now)) }
 {
-    match card_of(line) {
-        Ok(Card::Door { line: _, operands }) => {
-            let [door] = operands.numbers::<1>()?;
-            Some(door)
-        }
-        // Stays two arms: a card of another kind, and a line that is no card.
-        Ok(_) => None,
-        Err(_) => None,
-    }
+    let Ok(Card::Door { operands, .. }) = card_of(line) else {
+        return None;
+    };
+    let [door] = operands.numbers::<1>()?;
+    Some(door)
 }
 
 impl<'a> Doors<'a> {
-    // The doors of a deck, from the first on: those of its entries if it is accepted, so those of its plan.
+    /// The doors of a deck, from the first on: those of its entries if it is accepted, so those of its plan.
     pub fn new(bytes: &'a [u8]) -> Doors<'a>
         ensures whole { doors_left result ≡ doors_in (cards bytes.now) }
         ensures laws { DoorLaws bytes.now }
@@ -51,7 +47,7 @@ impl<'a> Iterator for Doors<'a> {
     ghost remaining = { item_count doors_left };
 
     fn next(&mut self) -> Option<u32> {
-        // Stays a loop: the proof that `self.lines.find_map(door_of)` answers this takes a lemma longer than the loop.
+        // Stays a loop: after self.lines.find_map(door_of) the proof does not close.
         while let Some(line) = self.lines.next() {
             if let Some(door) = door_of(line) {
                 return Some(door);

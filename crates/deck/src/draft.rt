@@ -55,7 +55,7 @@ fn check_plan(nodes: u32, head: u32) -> Result<(), StudyFault>
 }
 
 // The cards taken so far: the rows of the branches with their marks, and the line of the first door.
-// Stays with plain numbers of nodes and head, 0 before their card: the section says whether they are known.
+// Stays plain numbers, 0 before the NODES card: as an Option they would be unwrapped at each branch, where the section shows them.
 #[derive(Drop)]
 pub(crate) struct Draft {
     section: Section,
@@ -78,6 +78,7 @@ impl Draft {
         }
     }
 
+    // Stays in each put, the turn asked and the section set: the section of a card would be a match longer than these lines.
     fn put_nodes(&mut self, operands: Operands<'_>) -> Result<(), DeckFault>
         ensures { TakesAnywhere self.old nodes_word (words_left operands.entry) result self.new }
     {
@@ -142,10 +143,10 @@ impl Draft {
             self.new }
     {
         match card {
-            Card::Nodes { line: _, operands } => self.put_nodes(operands),
-            Card::Branch { line: _, operands } => self.put_branch(operands),
-            Card::Failed { line: _, operands } => self.put_mark(operands, Condition::Failed),
-            Card::Working { line: _, operands } => self.put_mark(operands, Condition::Working),
+            Card::Nodes { operands, .. } => self.put_nodes(operands),
+            Card::Branch { operands, .. } => self.put_branch(operands),
+            Card::Failed { operands, .. } => self.put_mark(operands, Condition::Failed),
+            Card::Working { operands, .. } => self.put_mark(operands, Condition::Working),
             Card::Door { line, operands } => self.put_door(line, operands),
         }
     }

@@ -12,7 +12,7 @@ use crate::line::{Line, Lines};
 use network::branch::TableRow;
 use refusals::deck_fault::{DeckFault, DeckRefusal};
 
-// What an accepted deck answers; door_line is the line of its first DOOR card.
+/// What an accepted deck answers; `door_line` is the line of its first DOOR card, counted from 1.
 #[derive(Clone, Copy, Debug, PartialEq, Eq)]
 pub struct Deck {
     pub nodes: u32,
@@ -34,7 +34,7 @@ fn read_lines(bytes: &[u8]) -> Result<(Deck, Draft), DeckRefusal>
 {
     let mut draft = Draft::new();
     let mut lines = Lines::new(bytes);
-    // Stays a `while let`: after a `for` over `lines.by_ref()` a proof knows no longer where the lines ended.
+    // Stays a while let: after a for over lines.by_ref() the proof no longer knows where the lines ended.
     while let Some(line) = lines.next() {
         read_line(&mut draft, line).map_err(|fault| fault.at(line.number))?;
     }
@@ -50,14 +50,15 @@ fn check_bytes(bytes: &[u8], places: usize) -> Result<(), DeckFault>
         return Err(DeckFault::Table);
     }
     match bytes {
-        [.., b'\n'] if bytes.len() <= 65536 => Ok(()),
+        [.., b'\n'] if bytes.len() <= 65_536 => Ok(()),
         _ => Err(DeckFault::Bytes),
     }
 }
 
-// Reads a deck. Its branches are written into the table once the deck is accepted, and later places stay; a refusal leaves
-// the table as it was, and is that of the first question answered no. The deck of a plan gives the plan back, nothing else
-// is accepted, and decks with the same cards are answered alike.
+/// Reads a deck. Its branches are written into the table once the deck is accepted, and later places stay; a refusal leaves
+/// the table as it was, and is that of the first question answered no. The deck of a plan gives the plan back, nothing else
+/// is accepted, and decks with the same cards are answered alike. Refused with 14 to 19, and with 1 to 5 from below, at
+/// the line of the card, or at line 0 for 14 and 15.
 pub fn read_deck(bytes: &[u8], table: &mut [TableRow]) -> Result<Deck, DeckRefusal>
     ensures answer { result ≡ deck_read (read_bytes (length table.old) bytes.now) }
     ensures filled { table.new ≡ table_after (read_bytes (length table.old) bytes.now) table.old }

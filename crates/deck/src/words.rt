@@ -13,7 +13,7 @@ fn all_digits(word: &[u8]) -> bool
 pub(crate) fn number(word: &[u8]) -> Option<u32>
     ensures { result ≡ number_of word.now }
 {
-    if word.is_empty() || word.len() > 10 || !all_digits(word) {
+    if !(1..=10).contains(&word.len()) || !all_digits(word) {
         return None;
     }
     str::from_utf8(word).unwrap().parse().ok()

@@ -6,7 +6,7 @@ use std::fs;
 use std::io::{BufRead, BufReader};
 use std::rt::Files;
 
-// Stays beside `study_file` of the plans: that one keeps a study from file to file, which this has not.
+// Stays beside study_file of plans: that one hands a study from file to file, and this has none.
 fn describe_file(rt: &(impl Files + Print + AllocGlobal), name: &str) -> anyhow::Result<()> {
     let bytes = fs::read(rt, name)?;
     let text = describe(rt.alloc(), &bytes)?;

@@ -96,7 +96,7 @@ module _ (net : Net) where
   tries_after_call s n (ask.Line k) = n
   tries_after_call s n (ask.Bounds which) = n
 
-  -- the sum of the tries that accepted advances answer since the last accepted aim
+  -- what the advances accepted since the last accepted aim say that they tried, added up
   abbrev pub tries_answered : State → ℕ → List Call → ℕ
   tries_answered s n [] = n
   tries_answered s n (call ∷ calls) = tries_answered (called net s call) (tries_after_call s n call) calls

@@ -35,11 +35,6 @@ state_of s = record { stage = s.stage; search = searched (rows_of s.table) s.tri
 abbrev pub no_state : State
 no_state = record { stage = Fresh; search = searched [] 0 }
 
--- a call that is refused leaves what it was handed as it was
-abbrev pub Kept : {A B : Type 0} → Result A StudyFault → B → B → Type 0
-Kept (Ok a) before later = Unit {0}
-Kept (Err f) before later = later ≡ before
-
 -- Set-up
 
 abbrev pub set_up_answer : Net → ℕ → Answer StudyFault

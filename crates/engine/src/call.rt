@@ -5,7 +5,7 @@ use crate::progress::Progress;
 use chance::bounds::Bounds;
 use refusals::study_fault::StudyFault;
 
-// One of the two scales of a run.
+/// One of the two scales of a run.
 #[derive(Clone, Copy, Debug, PartialEq, Eq)]
 pub enum WhichScale {
     First,
@@ -14,19 +14,19 @@ pub enum WhichScale {
 
 #[derive(Clone, Copy, Debug, PartialEq, Eq)]
 pub enum Call {
-    // aim at this door
+    /// Aim at this door.
     Aim(u32),
-    // make at most so many tries
+    /// Make at most so many tries.
     Advance(u32),
-    // show this row
+    /// Show this row.
     Show(usize),
-    // write the CUT line of this row into the buffer
+    /// Write the CUT line of this row into the buffer.
     Line(usize),
-    // ask for the bounds in one of the scales
+    /// Ask for the bounds in one of the scales.
     Bounds(WhichScale),
 }
 
-// What a call answers, or its refusal. A is the kind of number of the first scale, and B of the second.
+/// What a call answers, or its refusal. A is the kind of number of the first scale, and B of the second.
 #[derive(Clone, Copy)]
 pub enum Answer<A, B> {
     Aim(Result<(), StudyFault>),
@@ -37,7 +37,7 @@ pub enum Answer<A, B> {
     SecondBounds(Result<Bounds<B>, StudyFault>),
 }
 
-// A call, with the place for its answer.
+/// A call, with the place for its answer.
 #[derive(Clone, Copy)]
 pub struct Asked<A, B> {
     pub call: Call,
@@ -45,7 +45,7 @@ pub struct Asked<A, B> {
 }
 
 impl<A, B> Asked<A, B> {
-    // A call that is not made yet.
+    /// A call that is not made yet.
     pub fn new(call: Call) -> Self
         ensures { result ≡ record { call = call; answer = None } }
     {

@@ -13,6 +13,7 @@ use refusals::study_fault::StudyFault;
 use scale::Scale;
 
 // Hands a call to the study.
+// Stays apart from make_call: the law follows from these three clauses once, and not in each of six arms.
 fn answer_call<S: Scale, T: Scale, N: RatedNetwork>(
     study: &mut Study,
     network: &N,
@@ -33,7 +34,7 @@ fn answer_call<S: Scale, T: Scale, N: RatedNetwork>(
     }
 }
 
-// Makes one call on the study. A line goes into the buffer.
+/// Makes one call on the study. A line goes into the buffer.
 // Stays a study, a network and a buffer side by side: each is lent by the caller, and no call keeps it.
 pub fn make_call<S: Scale, T: Scale, N: RatedNetwork>(
     study: &mut Study,
@@ -49,8 +50,8 @@ pub fn make_call<S: Scale, T: Scale, N: RatedNetwork>(
     answer_call::<S, T, N>(study, network, call, buffer)
 }
 
-// Sets the study up, whatever it held, makes the calls in their order, and puts beside each what it answered. All lines go
-// into one buffer. A head that is no node is found before anything is touched, and nothing else is refused.
+/// Sets the study up, whatever it held, makes the calls in their order, and puts beside each what it answered. All lines go
+/// into one buffer. A head that is no node is refused with 5 before anything is touched, and nothing else is refused.
 pub fn carry_out<S: Scale, T: Scale, N: RatedNetwork>(
     study: &mut Study,
     network: &N,
@@ -72,12 +73,12 @@ pub fn carry_out<S: Scale, T: Scale, N: RatedNetwork>(
     Ok(())
 }
 
-// In every scale with numbers of type T, every list of calls lists minimal cuts and encloses the chance.
+/// In every scale with numbers of type T, every list of calls lists minimal cuts and encloses the chance.
 pub fn every_run_is_sound<T>()
     ensures { EveryRunIsSound T }
 {}
 
-// Runs on the bridge, worked to the end.
+/// Runs on the bridge, worked to the end.
 pub fn bridge_runs_hold<A, B>()
     ensures { (first : Arithmetic A) (second : Arithmetic B) → BridgeRuns first second }
 {}

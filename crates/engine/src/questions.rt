@@ -7,6 +7,7 @@ use refusals::study_fault::StudyFault;
 use search::questions::{is_held, is_joined};
 
 // Is the door a node, another than the head, joined to it, and not so joined that no failure can part them?
+// Stays a network beside a head and a door: aim alone asks, and would make the struct for this one call.
 pub(crate) fn check_door<N: Network>(network: &N, head: u32, door: u32) -> Result<(), StudyFault>
     ensures { result ≡ door_asked (N.net network.now) head door }
 {

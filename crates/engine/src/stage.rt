@@ -23,7 +23,7 @@ impl Stage {
         }
     }
 
-    // The door of the last accepted aim since then.
+    // The door of the last accepted aim since the set-up.
     pub(crate) fn door(self) -> Option<u32>
         ensures { result ≡ door_of self }
     {

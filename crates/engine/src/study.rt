@@ -8,8 +8,8 @@ use search::table::Table;
 
 mod calls;
 
-// The head of the set-up with the door of the last accepted aim since then, and the rows found and tries made since that
-// aim. Each try bars a node, so the tries are at most 32 for each row.
+/// The head of the set-up with the door of the last accepted aim since then, and the rows found and tries made since that
+/// aim. Each try bars a node, so the tries are at most 32 for each row.
 #[derive(Drop)]
 pub struct Study {
     stage: Stage,

@@ -11,9 +11,9 @@ use network::branch::Branch;
 use network::rating::Rating;
 use network::traits::{Network, RatedNetwork};
 
-// Node 0 of the second network becomes node `node` of the first, and its other nodes and its branches are numbered after
-// the first's. The empty network if there is no such node, the second has no node, or there would be more than 32 nodes
-// or 64 branches.
+/// Node 0 of the second network becomes node `node` of the first, and its other nodes and its branches are numbered after
+/// the first's. The empty network if there is no such node, the second has no node, or there would be more than 32 nodes
+/// or 64 branches.
 #[derive(Drop)]
 pub struct Joint<P, Q> {
     first: P,
@@ -56,7 +56,7 @@ impl<P: Network, Q: Network> Network for Joint<P, Q> {
         (P.Network.legal s.first)
         (Q.Network.legal s.second) };
 
-    // Stays a test in each of the four answers: where the joint is not possible each has another value for none.
+    // Stays a test in each of the four answers: where the joint is not possible two answer 0, and two answer `None`.
     fn nodes(&self) -> u32
         ensures meaning { result ≡ (⟦<Joint<P, Q> as Network>⟧.net self.now).nodes }
         ensures law { JoinedNodes self.now.node (P.Network.net self.now.first) (Q.Network.net self.now.second) result }
@@ -109,6 +109,7 @@ impl<P: RatedNetwork, Q: RatedNetwork> RatedNetwork for Joint<P, Q> {
 
     ghost same = { λ s. ap₂ (joint_net s.node) (P.RatedNetwork.same s.first) (Q.RatedNetwork.same s.second) };
 
+    // Stays beside `branch`, in the same steps: a type for "of the first, of the second, of neither" is longer than two tests.
     fn rating(&self, k: u32) -> Option<Rating>
         ensures answer { result ≡ slice_get (⟦<Joint<P, Q> as RatedNetwork>⟧.rated self.now).ratings k }
         ensures same { (⟦<Joint<P, Q> as RatedNetwork>⟧.rated self.now).plain ≡ ⟦<Joint<P, Q> as Network>⟧.net self.now }

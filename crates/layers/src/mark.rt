@@ -13,7 +13,7 @@ use network::rating::Rating;
 use network::traits::{Network, RatedNetwork};
 use std::marker::PhantomData;
 
-// What a layer tells of its branch.
+/// What a layer tells of its branch.
 pub trait Mark: Drop {
     ghost CONDITION: { Condition };
 
@@ -38,7 +38,7 @@ impl Mark for AsWorking {
     const CONDITION: Condition = Condition::Working;
 }
 
-// The network below with one branch told as the mark says; the network below if it has no branch of that number.
+/// The network below with one branch told as the mark says; the network below if it has no branch of that number.
 #[derive(Drop)]
 pub struct Told<N, M> {
     below: N,
@@ -46,8 +46,10 @@ pub struct Told<N, M> {
     mark: PhantomData<M>,
 }
 
+/// The network below with branch k told as failed.
 pub type Out<N> = Told<N, AsFailed>;
 
+/// The network below with branch k told as working.
 pub type Sure<N> = Told<N, AsWorking>;
 
 impl<N: Network, M: Mark> Told<N, M> {

@@ -6,14 +6,14 @@ ghost use Rattle.network.specs.Meaning.{branch_of, blank_row, letter, branch_tex
 use crate::rating::Rating;
 use std::fmt;
 
-// Whether a branch can fail.
+/// Whether a branch can fail.
 #[derive(Clone, Copy, Debug, PartialEq, Eq)]
 pub enum Condition {
-    // able to fail
+    /// Able to fail.
     Able,
-    // failed, so absent
+    /// Failed, so absent.
     Failed,
-    // working: present and unable to fail
+    /// Working: present and unable to fail.
     Working,
 }
 
@@ -22,16 +22,15 @@ impl fmt::Display for Condition {
     ghost output = { λ condition. Some (letter condition ∷ []) };
 
     fn fmt<W: fmt::Write>(&self, f: &mut fmt::Formatter<W>) -> fmt::Result {
-        let letter = match *self {
+        f.write_str(match *self {
             Condition::Able => "A",
             Condition::Failed => "F",
             Condition::Working => "W",
-        };
-        write!(f, "{letter}")
+        })
     }
 }
 
-// A branch by its two ends, which may be the same node.
+/// A branch by its two ends, which may be the same node.
 #[derive(Clone, Copy, Debug, PartialEq, Eq)]
 pub struct Branch {
     pub from: u32,
@@ -44,14 +43,11 @@ impl fmt::Display for Branch {
     ghost output = { λ branch. Some (branch_text branch) };
 
     fn fmt<W: fmt::Write>(&self, f: &mut fmt::Formatter<W>) -> fmt::Result {
-        let from = self.from;
-        let to = self.to;
-        let condition = self.condition;
-        write!(f, "{from} {to} {condition}")
+        write!(f, "{} {} {}", self.from, self.to, self.condition)
     }
 }
 
-// A row of a caller's table: a branch and the two numbers of its rating, not yet checked.
+/// A row of a caller's table: a branch and the two numbers of its rating, not yet checked.
 #[derive(Clone, Copy, Debug, PartialEq, Eq)]
 pub struct TableRow {
     pub from: u32,
@@ -78,14 +74,14 @@ impl Default for TableRow {
 }
 
 impl TableRow {
-    // The rating, where its numbers are legal.
+    /// The rating, where its numbers are legal.
     pub fn rating(&self) -> Option<Rating>
         ensures { result ≡ checked_rating self.now.mantissa self.now.exponent }
     {
         Rating::new(self.mantissa, self.exponent)
     }
 
-    // The branch without its rating.
+    /// The branch without its rating.
     // Stays a method: it takes a part of the row, where a conversion would say that the two are one thing.
     pub fn branch(&self) -> Branch
         ensures { result ≡ branch_of self.now }

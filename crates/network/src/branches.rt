@@ -7,7 +7,7 @@ use crate::branch::Branch;
 use crate::traits::Network;
 use std::marker::Model;
 
-// Gives each branch that is left with its number, rising. A contract sees the list of these.
+/// Gives each branch that is left with its number, rising. A contract sees the list of these.
 #[derive(Drop)]
 pub struct Branches<'a, N: Network> {
     network: &'a N,

@@ -7,7 +7,7 @@ use crate::branch::TableRow;
 pub mod answers;
 pub mod filling;
 
-// At first the empty network. Only a table that passed every question is held.
+/// At first the empty network. Only a table that passed every question is held.
 #[derive(Drop)]
 pub struct List<'a> {
     nodes: u32,

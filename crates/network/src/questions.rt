@@ -6,8 +6,9 @@ use crate::branch::TableRow;
 use refusals::network_fault::NetworkFault;
 use refusals::study_fault::StudyFault;
 
-// Stays a function for each question: one text for all would take number, limits and fault, and say no more than the test.
-// Are there 2 to 32 nodes?
+// Stays a function for each question: one for all would take number, limits and fault, and be no shorter than the test.
+
+/// Are there 2 to 32 nodes? Refused with 1.
 pub fn check_nodes(nodes: u32) -> Result<(), NetworkFault>
     ensures { result ≡ nodes_asked nodes }
 {
@@ -17,7 +18,7 @@ pub fn check_nodes(nodes: u32) -> Result<(), NetworkFault>
     Ok(())
 }
 
-// Are there 1 to 64 branches?
+/// Are there 1 to 64 branches? Refused with 2.
 pub fn check_branch_count(branches: usize) -> Result<(), NetworkFault>
     ensures { result ≡ count_asked branches }
 {
@@ -27,7 +28,7 @@ pub fn check_branch_count(branches: usize) -> Result<(), NetworkFault>
     Ok(())
 }
 
-// Has branch k both ends below the node count, and a legal rating?
+/// Has branch k both ends below the node count, and a legal rating? Refused with 3 or 4, at place k.
 pub fn check_row(nodes: u32, k: u32, row: &TableRow) -> Result<(), NetworkFault>
     ensures { result ≡ row_asked nodes k row.now }
 {
@@ -38,7 +39,7 @@ pub fn check_row(nodes: u32, k: u32, row: &TableRow) -> Result<(), NetworkFault>
     Ok(())
 }
 
-// May a study be set up on a network of so many nodes, with this head?
+/// May a study be set up on a network of so many nodes, with this head? Refused with 5.
 pub fn check_head(nodes: u32, head: u32) -> Result<(), StudyFault>
     ensures { result ≡ head_asked nodes head }
 {

@@ -14,7 +14,7 @@ use crate::rating::Rating;
 use crate::traits::{Network, RatedNetwork};
 use refusals::network_fault::NetworkFault;
 
-// n nodes and n branches with one rating: branch k joins k and k + 1, and the last joins n - 1 and 0.
+/// As many branches as nodes, all with one rating: branch k joins k and k + 1, and the last joins n - 1 and 0.
 #[derive(Clone, Copy, Debug, PartialEq, Eq)]
 pub struct Ring {
     nodes: u32,
@@ -23,7 +23,8 @@ pub struct Ring {
 }
 
 impl Ring {
-    // The refusal is that of the first question answered no.
+    /// A ring, or the refusal of the first question answered no: 1, then 4 at place 0, since all branches have the rating.
+    // Stays two bare numbers: whether they are a rating is one of the questions.
     #[tactic(auto, using(crate::proofs::Firsts::ring_first))]
     pub fn new(nodes: u32, mantissa: u32, exponent: u32) -> Result<Ring, NetworkFault>
         ensures answer { MatchResult

@@ -32,6 +32,7 @@ impl<'a> Words<'a> {
 }
 
 // A scale whose numbers are read from words.
+// Stays here: only this program makes numbers from text, and a TryFrom would be a promise of the scales.
 trait ReadScale: Scale {
     fn read(words: &mut Words<'_>) -> anyhow::Result<Self::Num>;
 }
@@ -94,7 +95,7 @@ fn work(rt: &impl Print, line: &str) -> anyhow::Result<()> {
     }
 }
 
-// Stays in each program that reads lines: a function for it would take a closure that may fail, and say more than this chain.
+// Stays in each of the six programs that read lines: a function for it would take a closure that may fail, and be longer.
 fn main(rt: HostRuntime) -> anyhow::Result<()> {
     BufReader::new(rt.alloc(), rt.stdin())?
         .lines(rt.alloc())

@@ -2,7 +2,8 @@
 // second list, the node at which they are joined, the branch of the joint that is out, and the branch that is sure.
 #![tactic(auto)]
 
-ghost use Rattle.std.specs.Prelude.{◌≡◌, ℕ, ◌<◌, ◌≤◌, max, min, take, [], is_ok, if◌then◌else◌, slice_index_or};
+ghost use Rattle.std.specs.Prelude.{◌≡◌, IfOk, ◌<◌, ◌≤◌, max, min, map, [], is_ok, if◌then◌else◌, vec_items};
+ghost use Rattle.std.specs.List.{range_with_len};
 ghost use Rattle.network.specs.Meaning.{empty_net, list_rated};
 ghost use Rattle.network.specs.Questions.{list_asked};
 ghost use Rattle.piles.specs.Rows.{row_of};
@@ -17,10 +18,11 @@ use network::traits::RatedNetwork;
 use refusals::layer::Refusal;
 use refusals::network_fault::NetworkFault;
 use sheet::network_text::NetworkText;
+use std::alloc::{AllocError, Global};
 use std::io::{BufRead, BufReader};
 use std::str::{FromStr, Split};
 
-const PLACES: usize = 70;
+const PLACES: u32 = 70;
 
 // Row k lies between nodes k and 7 k + 3, counted round.
 fn row(nodes: u32, k: u32, mantissa: u32, exponent: u32) -> TableRow
@@ -36,41 +38,20 @@ fn row(nodes: u32, k: u32, mantissa: u32, exponent: u32) -> TableRow
     }
 }
 
-// The rows of a list, as many as a table has places.
-// Stays an array, of which a case takes the first: the list lends the rows, and a `Vec` could fail.
-fn rows(nodes: u32, mantissa: u32, exponent: u32) -> [TableRow; PLACES]
-    requires { mantissa ≤ 1000000 }
-    ensures { (k : ℕ) (d : TableRow) → k < 70 → slice_index_or result k d ≡ row_of (max nodes 1) k mantissa exponent }
-{
-    let mut table = [TableRow::default(); PLACES];
-    let round = nodes.max(1);
-    for (k, place) in table.iter_mut().enumerate() {
-        *place = row(round, k as u32, mantissa, exponent);
-    }
-    table
-}
-
-// The list of these rows; where they are refused, the empty network that it was at first.
-fn listed<'a>(nodes: u32, rows: &'a [TableRow]) -> List<'a>
-    ensures { ⟦<List<'a> as RatedNetwork>⟧.rated result ≡ (if is_ok (list_asked nodes rows.now) then list_rated nodes rows.now else record { plain = empty_net; ratings = [] }) }
-{
-    let mut list = List::new();
-    let _ = list.fill(nodes, rows);
-    list
-}
-
 fn tell_refusal(rt: &impl Print, what: &str, fault: NetworkFault) -> anyhow::Result<()> {
     let Refusal { number, place, .. } = fault.into();
     println!(rt; "{what} REFUSED {number} PLACE {place}")?;
     Ok(())
 }
 
-fn tell_list(rt: &impl Print, nodes: u32, rows: &[TableRow]) -> anyhow::Result<()> {
+// The list of these rows; where they are refused, which is told, the empty network that it was at first.
+fn listed<'a>(rt: &impl Print, nodes: u32, rows: &'a [TableRow]) -> anyhow::Result<List<'a>>
+    ensures { IfOk result (λ list. ⟦<List<'a> as RatedNetwork>⟧.rated list ≡ (if is_ok (list_asked nodes rows.now) then list_rated nodes rows.now else record { plain = empty_net; ratings = [] })) }
+{
     let mut list = List::new();
-    match list.fill(nodes, rows) {
-        Ok(()) => Ok(()),
-        Err(fault) => tell_refusal(rt, "LIST", fault),
-    }
+    list.fill(nodes, rows)
+        .or_else(|fault| tell_refusal(rt, "LIST", fault))?;
+    Ok(list)
 }
 
 fn number(words: &mut Split<'_, char>) -> anyhow::Result<u32> {
@@ -92,11 +73,15 @@ impl Size {
         Ok(Size { nodes, branches })
     }
 
-    // As many of the rows as the list has branches, where there are so many.
-    fn first_of<'a>(self, rows: &'a [TableRow; PLACES]) -> &'a [TableRow]
-        ensures { result.now ≡ take (min self.branches 70) rows.now }
+    // The rows of the list, but no more than a table has places.
+    fn rows(self, heap: Global, mantissa: u32, exponent: u32) -> Result<Vec<TableRow>, AllocError>
+        requires { mantissa ≤ 1000000 }
+        ensures { IfOk result (λ rows. vec_items rows ≡ map (λ k. row_of (max self.nodes 1) k mantissa exponent) (range_with_len 0 (min self.branches 70))) }
     {
-        &rows[..(self.branches as usize).min(PLACES)]
+        let round = self.nodes.max(1);
+        (0..self.branches.min(PLACES))
+            .map(|k| row(round, k, mantissa, exponent))
+            .collect(heap)
     }
 }
 
@@ -147,20 +132,17 @@ impl Case {
     }
 
     // The two lists joined; then the ring.
-    fn tell(self, rt: &impl Print) -> anyhow::Result<()> {
-        let first_rows = rows(self.first.nodes, 1000, 9);
-        let second_rows = rows(self.second.nodes, 2000, 18);
-        let first_rows = self.first.first_of(&first_rows);
-        let second_rows = self.second.first_of(&second_rows);
-        let [n, m] = [self.first.nodes, self.second.nodes];
-        tell_list(rt, n, first_rows)?;
-        tell_list(rt, m, second_rows)?;
-        self.tell_pile(rt, listed(n, first_rows), listed(m, second_rows))?;
-        self.tell_ring(rt, listed(m, second_rows))
+    fn tell(self, rt: &(impl Print + AllocGlobal)) -> anyhow::Result<()> {
+        let first_rows = self.first.rows(rt.alloc(), 1000, 9)?;
+        let second_rows = self.second.rows(rt.alloc(), 2000, 18)?;
+        let first = listed(rt, self.first.nodes, &first_rows)?;
+        let second = listed(rt, self.second.nodes, &second_rows)?;
+        self.tell_pile(rt, &first, &second)?;
+        self.tell_ring(rt, &second)
     }
 }
 
-fn tell_case(rt: &impl Print, line: &str) -> anyhow::Result<()> {
+fn tell_case(rt: &(impl Print + AllocGlobal), line: &str) -> anyhow::Result<()> {
     println!(rt; "CASE {line}")?;
     line.parse::<Case>()?.tell(rt)
 }

@@ -1,4 +1,5 @@
-// The same sheets in portions: each line of standard input names the file of a deck and the budget of each advance.
+// Sheets whose searches advance in portions: each line of standard input names the file of a deck and the budget of each
+// advance.
 #![tactic(auto)]
 
 use anyhow::{Context, anyhow, bail};
@@ -25,6 +26,7 @@ struct Portions<'a, N> {
 impl<'a, N: RatedNetwork> Portions<'a, N> {
     // Advances until the search is finished or full.
     fn advance_all(&self, study: &mut Study) -> anyhow::Result<()> {
+        // more than the tries that 512 rows of 32 nodes allow
         for _ in 0..20_000 {
             let progress = study
                 .advance(self.network, self.budget)
@@ -72,9 +74,10 @@ fn tell_case(rt: &(impl Files + Print + AllocGlobal), line: &str) -> anyhow::Res
     let budget = budget.parse::<u32>()?;
     let bytes = fs::read(rt, name)?;
     let mut table = [TableRow::default(); 64];
-    let (network, head) = read_network(&bytes, &mut table).map_err(|_| anyhow!(
-        "the deck is refused"
-    ))?;
+    // Stays in both programs that read the network of a deck: the list borrows the table, which a function could not hand out.
+    let (network, head) = read_network(&bytes, &mut table)
+        .ok()
+        .context("the deck is refused")?;
     let portions = Portions {
         network: &network,
         head,

@@ -10,6 +10,7 @@ use crate::study_fault::StudyFault;
 use std::{error, fmt};
 use thiserror::Error;
 
+/// The questions 14 to 19, in their order.
 #[derive(Clone, Copy, Debug, PartialEq, Eq, Error)]
 pub enum DeckFault {
     #[error(transparent)]
@@ -66,7 +67,7 @@ impl From<DeckFault> for Refusal {
     }
 }
 
-// A fault with its line; line 0 where no line is at fault.
+/// A fault with its line; line 0 where no line is at fault.
 // Stays a number with 0 for none: the rules print LINE 0 for a deck refused as a whole.
 #[derive(Clone, Copy, Debug, PartialEq, Eq)]
 pub struct DeckRefusal {
@@ -75,6 +76,7 @@ pub struct DeckRefusal {
 }
 
 impl DeckFault {
+    /// The fault with the line where it stands, counted from 1.
     pub fn at(self, line: usize) -> DeckRefusal
         ensures { result ≡ record { fault = self; line = line } }
     {

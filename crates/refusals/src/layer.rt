@@ -4,7 +4,7 @@ ghost use Rattle.refusals.specs.Refusals.{letter};
 
 use std::fmt;
 
-// The part of the engine whose question was answered no.
+/// The part of the engine whose question was answered no.
 #[derive(Clone, Copy, Debug, PartialEq, Eq)]
 pub enum Layer {
     Network,
@@ -12,7 +12,7 @@ pub enum Layer {
     Deck,
 }
 
-// The number of the question, its layer, and the branch it is about, 0 where it is about none.
+/// The number of the question, its layer, and the branch it is about, 0 where it is about none.
 // Stays numbers, and place 0 for none: the rules print these three figures of every refusal.
 #[derive(Clone, Copy, Debug, PartialEq, Eq)]
 pub struct Refusal {
@@ -26,11 +26,10 @@ impl fmt::Display for Layer {
     ghost output = { λ layer. Some (letter layer ∷ []) };
 
     fn fmt<W: fmt::Write>(&self, f: &mut fmt::Formatter<W>) -> fmt::Result {
-        let letter = match *self {
+        f.write_str(match *self {
             Layer::Network => "N",
             Layer::Study => "S",
             Layer::Deck => "D",
-        };
-        write!(f, "{letter}")
+        })
     }
 }

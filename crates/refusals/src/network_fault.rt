@@ -6,6 +6,7 @@ use crate::layer::{Layer, Refusal};
 use std::fmt;
 use thiserror::Error;
 
+/// The questions 1 to 4; in 3 and 4 the place is the branch.
 #[derive(Clone, Copy, Debug, PartialEq, Eq, Error)]
 pub enum NetworkFault {
     #[error("there are not 2 to 32 nodes")]

@@ -8,6 +8,7 @@ use crate::network_fault::NetworkFault;
 use std::fmt;
 use thiserror::Error;
 
+/// The questions 5 to 13, in their order.
 #[derive(Clone, Copy, Debug, PartialEq, Eq, Error)]
 pub enum StudyFault {
     #[error(transparent)]

@@ -12,9 +12,9 @@ mod powers;
 pub mod worked;
 pub mod worked_cases;
 
-// A set of chances and its arithmetic. No operation refuses anything.
+/// A set of chances and its arithmetic. No operation refuses anything.
 pub trait Scale {
-    // The scale's own kind of number.
+    /// The scale's own kind of number.
     type Num: Copy;
 
     // The value of each number, and what each operation answers.
@@ -38,7 +38,7 @@ pub trait Scale {
     fn sum_up(x: Self::Num, y: Self::Num) -> Self::Num
         ensures { result ≡ arithmetic.sum_up x y };
 
-    // x less y, and 0 where y is above x.
+    /// `x` less `y`, rounded down; 0 where `y` is above `x`.
     fn less_down(x: Self::Num, y: Self::Num) -> Self::Num
         ensures { result ≡ arithmetic.less_down x y };
 

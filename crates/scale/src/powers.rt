@@ -4,7 +4,7 @@ ghost use Rattle.scale.specs.Quotients.{ceil_div};
 
 use network::rating::Rating;
 
-// A table, since `pow` multiplies in a loop.
+// Stays a table: pow multiplies in a loop.
 const POWERS: [u64; 19] = [
     1,
     10,
@@ -27,7 +27,8 @@ const POWERS: [u64; 19] = [
     1_000_000_000_000_000_000,
 ];
 
-// n / d, rounded up. For a constant d this takes fewer steps than `div_ceil`.
+// n / d, rounded up.
+// Stays by hand: for a constant d this takes fewer steps than div_ceil.
 #[inline(always)]
 fn quotient_up(n: u64, d: u64) -> u64
     requires { 0 < d }
@@ -44,18 +45,16 @@ pub(crate) struct PowerOfTen {
     ghost small: { exponent ≤ 18 },
 }
 
-// The power under a rating.
-impl From<Rating> for PowerOfTen {
-    ghost from_gives = { λ by power. power.exponent ≡ by.exponent };
-
-    fn from(by: Rating) -> PowerOfTen {
+impl PowerOfTen {
+    // The power under a rating.
+    pub(crate) fn under(by: Rating) -> PowerOfTen
+        ensures { result.exponent ≡ by.exponent }
+    {
         PowerOfTen {
             exponent: by.exponent,
         }
     }
-}
 
-impl PowerOfTen {
     pub(crate) fn value(self) -> u64
         ensures power { result ≡ 10 ^ self.exponent }
         ensures positive { 0 < result }
@@ -63,7 +62,8 @@ impl PowerOfTen {
         POWERS[self.exponent as usize]
     }
 
-    // n over this power by `quotient`: each arm has a constant divisor, which compiles to a multiplication.
+    // n over this power by `quotient`.
+    // Stays a match: a constant divisor compiles to a multiplication.
     #[inline(always)]
     fn divide<F: FnOnce(u64, u64) -> u64>(self, n: u64, quotient: F) -> u64
         requires { (d : ℕ) → 0 < d → F.pre quotient n d }
@@ -105,6 +105,6 @@ impl PowerOfTen {
     pub(crate) fn divide_up(self, n: u64) -> u64
         ensures { result ≡ ceil_div n (10 ^ self.exponent) }
     {
-        self.divide(n, |n, d| quotient_up(n, d))
+        self.divide(n, quotient_up)
     }
 }

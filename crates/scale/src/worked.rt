@@ -10,7 +10,7 @@ use crate::nine_figures::{Decimal, NineFigures};
 use crate::worked_cases::WorkedCases;
 use network::rating::Rating;
 
-// What the two scales answer in the worked cases.
+/// What the two scales answer in the worked cases.
 pub fn work_cases() -> WorkedCases
     ensures { ProductsAndDifferenceByHand result }
 {
@@ -36,7 +36,7 @@ pub fn work_cases() -> WorkedCases
     }
 }
 
-// In both scales equal values are equal numbers.
+/// In both scales equal values are equal numbers.
 pub fn equal_values_are_equal_numbers()
     ensures billionths { OneNumberForEachValue billionths }
     ensures figures { OneNumberForEachValue nine_figures }

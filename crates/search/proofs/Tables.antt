@@ -33,8 +33,8 @@ module _ (t : Table) (k : ℕ) (h : k < length (rows_of t)) where
   there : (d : Row) → get_or t.rows k d ≡ row_at (rows_of t) k
   there d = nth-is (rows_of t) k _ blank (sym (row-some t k d h))
 
-  pub bar-written : (v m b : ℕ) (d d' : Row) → m ≡ single v → b ≡ bit_or (get_or t.rows k d').barred m
+  pub bar-written : (v b : ℕ) (d : Row) → b ≡ bit_or (get_or t.rows k d).barred (single v)
       → take t.count (set t.rows k (record { inside = (get_or t.rows k d).inside; barred = b })) ≡ barred_at k v (rows_of t)
-  bar-written v m b d d' e w =
+  bar-written v b d w =
       take-set-lt t.count t.rows k _ (omega (arith, length-rows t))
-      ∙ ap₂ (λ i b. set (rows_of t) k (record { inside = i; barred = b })) (ap (λ r. r.inside) (there d)) (w ∙ ap₂ (λ r n. bit_or r.barred n) (there d') e)
+      ∙ ap₂ (λ i b. set (rows_of t) k (record { inside = i; barred = b })) (ap (λ r. r.inside) (there d)) (w ∙ ap (λ r. bit_or r.barred (single v)) (there d))

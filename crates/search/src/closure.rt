@@ -22,7 +22,6 @@ fn outside_of<N: Network>(network: &N, door: u32, set: NodeSet) -> NodeSet
 }
 
 // Every node without a chain to the door that avoids what the set holds; all nodes where it holds the door.
-// Stays a network beside a door: every call is passed the network, and a struct of both would be made anew in each.
 pub(crate) fn closure_of<N: Network>(network: &N, door: u32, set: NodeSet) -> NodeSet
     ensures { result ≡ closure (N.net network.now) door set }
 {

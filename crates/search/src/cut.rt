@@ -19,7 +19,7 @@ fn is_parted(inside: NodeSet, b: Branch) -> bool
     b.condition == Condition::Able && inside.contains(b.from) != inside.contains(b.to)
 }
 
-// The branches able to fail with exactly one end inside.
+/// The branches able to fail with exactly one end inside.
 pub fn branch_set_of<N: Network>(network: &N, row: &Row) -> BranchSet
     ensures { result ≡ branch_set (N.net network.now) row.now }
 {
@@ -32,14 +32,14 @@ pub fn branch_set_of<N: Network>(network: &N, row: &Row) -> BranchSet
     set
 }
 
-// The nodes not inside.
+/// The nodes not inside.
 pub fn node_vector_of<N: Network>(network: &N, row: &Row) -> NodeSet
     ensures { result ≡ node_vector (N.net network.now) row.now }
 {
     all_nodes(network) - row.inside
 }
 
-// Both together.
+/// The branch set and the node vector of a row.
 pub fn cut_of<N: Network>(network: &N, row: &Row) -> Cut
     ensures { result ≡ row_cut (N.net network.now) row.now }
 {

@@ -12,7 +12,7 @@ use network::traits::Network;
 use sets::set::NodeSet;
 
 // A node tried in a row, and the row that this writes, if it writes one.
-#[derive(Clone, Copy, Drop)]
+#[derive(Clone, Copy)]
 pub(crate) struct Try {
     pub(crate) row: usize,
     pub(crate) node: u32,
@@ -20,7 +20,7 @@ pub(crate) struct Try {
 }
 
 // Why no try can be made.
-#[derive(Clone, Copy, Debug, PartialEq, Eq, Drop)]
+#[derive(Clone, Copy, Debug, PartialEq, Eq)]
 pub(crate) enum Halt {
     // no row has a candidate
     Finished,
@@ -45,6 +45,7 @@ fn first_try<N: Network>(table: &Table, network: &N, first: usize) -> Option<(us
     ensures { result ≡ first_open (N.net network.now) (rows_of table.now) }
 {
     let rest = table.rows().get(first..)?;
+    // Stays a loop: after find_map the proof that no earlier row has a candidate does not close.
     for (i, row) in rest.iter().enumerate() {
         if let Some(node) = lowest_candidate(network, row) {
             return Some((first + i, node));
@@ -71,7 +72,6 @@ fn row_by<N: Network>(network: &N, door: u32, row: &Row, node: u32) -> Option<Ro
 }
 
 // The next try, where the first rows have no candidate.
-// Stays a network beside a door: every call is passed the network, and a struct of both would be made anew in each.
 pub(crate) fn next_try<N: Network>(
     table: &Table,
     network: &N,

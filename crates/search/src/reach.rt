@@ -73,6 +73,7 @@ pub(crate) fn reach<N: Network>(network: &N, over: Over, avoid: NodeSet, start: 
     ensures { result ≡ spread (N.net network.now).nodes (avoiding over (N.net network.now) avoid) (N.net network.now).nodes start }
 {
     let mut set = start;
+    // each round but the last adds a node
     for _ in 0..network.nodes() {
         let wider = widen(network, over, avoid, set);
         if wider == set {

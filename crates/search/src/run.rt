@@ -10,18 +10,18 @@ use crate::table::Table;
 use network::traits::Network;
 
 // Bars the node in its row, and writes the new row after the others.
-fn make(table: &mut Table, t: Try)
-    requires { Room t (length (rows_of table.old)) }
-    ensures { rows_of table.new ≡ applied t (rows_of table.old) }
+fn apply(table: &mut Table, made: Try)
+    requires { Room made (length (rows_of table.old)) }
+    ensures { rows_of table.new ≡ applied made (rows_of table.old) }
 {
-    table.bar(t.row, t.node);
-    if let Some(row) = t.written {
+    table.bar(made.row, made.node);
+    if let Some(row) = made.written {
         table.push(row);
     }
 }
 
-// Makes tries until the budget is spent or none can be made, and answers how many.
-// Stays a network beside a door: every call is passed the network, and a struct of both would be made anew in each.
+/// Makes tries until the budget is spent or none can be made, and answers how many.
+// Stays a network beside a door: each public call is lent both, and would make the struct for one or two private functions.
 pub fn run_tries<N: Network>(table: &mut Table, network: &N, door: u32, budget: u32) -> u32
     ensures { (t : ℕ) → searched (rows_of table.new) (t + result) ≡ run (N.net network.now) door budget (searched (rows_of table.old) t) }
 {
@@ -32,12 +32,12 @@ pub fn run_tries<N: Network>(table: &mut Table, network: &N, door: u32, budget: 
             return tries;
         };
         first = t.row;
-        make(table, t);
+        apply(table, t);
     }
     budget
 }
 
-// How the search stands.
+/// How the search stands.
 pub fn status_of<N: Network>(table: &Table, network: &N, door: u32) -> Status
     ensures { result ≡ status (N.net network.now) door (rows_of table.now) }
 {

@@ -6,11 +6,11 @@ use std::fmt;
 
 #[derive(Clone, Copy, Debug, PartialEq, Eq)]
 pub enum Status {
-    // no row has a candidate
+    /// No row has a candidate.
     Finished,
-    // the next try would write a row, and there is no room for one
+    /// The next try would write a row, and there is no room for one.
     Full,
-    // a try can be made
+    /// A try can be made.
     More,
 }
 
@@ -19,11 +19,10 @@ impl fmt::Display for Status {
     ghost output = { λ status. Some (status_word status) };
 
     fn fmt<W: fmt::Write>(&self, f: &mut fmt::Formatter<W>) -> fmt::Result {
-        let word = match *self {
+        f.write_str(match *self {
             Status::Finished => "FINISHED",
             Status::Full => "FULL",
             Status::More => "MORE",
-        };
-        write!(f, "{word}")
+        })
     }
 }

@@ -6,8 +6,8 @@ use crate::row::Row;
 mod reading;
 mod writing;
 
-// At most 512 rows, in the order in which they were written.
-// Stays an array with a count beside it: the rules of the project fix a table of 512 row structs in a plain struct.
+/// At most 512 rows, in the order in which they were written.
+// Stays an array with a count beside it: a rule of the project fixes the table as 512 rows, each a struct, in one struct.
 #[derive(Drop)]
 pub struct Table {
     rows: [Row; 512],

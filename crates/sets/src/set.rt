@@ -10,7 +10,7 @@ mod debug;
 pub mod members;
 mod operators;
 
-// A set of numbers below a width: bit k of the word says whether k is a member. A contract sees the number that the word is.
+/// A set of numbers below a width: bit k of the word says whether k is a member. A contract sees the number that the word is.
 #[derive_where(Clone, Copy, Default, PartialEq, Eq)]
 pub struct Set<W: Width> {
     word: u64,
@@ -30,9 +30,10 @@ impl<W: Width> Model for Set<W> {
     ghost inverse = { λ n. record { word = n; width = record {} } };
 }
 
-// Sets of nodes, and sets of branches.
+/// Sets of nodes.
 pub type NodeSet = Set<OfNodes>;
 
+/// Sets of branches.
 pub type BranchSet = Set<OfBranches>;
 
 // The n lowest bits.
@@ -58,14 +59,14 @@ impl<W: Width> Set<W> {
         }
     }
 
-    // The set without members.
+    /// The set without members.
     pub fn new() -> Set<W>
         ensures { result ≡ 0 }
     {
         Set::of(0)
     }
 
-    // The set of one number; a number past the width is in no set.
+    /// The set of one number; a number past the width is in no set.
     pub fn single(k: u32) -> Set<W>
         ensures { result ≡ collect W.BITS (λ v. nat_eq v k) }
     {
@@ -76,7 +77,7 @@ impl<W: Width> Set<W> {
         }
     }
 
-    // The numbers below a count.
+    /// The numbers below a count.
     pub fn below(count: u32) -> Set<W>
         ensures { result ≡ collect W.BITS (λ v. nat_lt v count) }
     {
@@ -95,21 +96,21 @@ impl<W: Width> Set<W> {
         self.word & Set::<W>::single(k).word != 0
     }
 
-    // Adds k, unless it is past the width.
+    /// Adds k, unless it is past the width.
     pub fn insert(&mut self, k: u32)
         ensures { self.new ≡ bit_or self.old (collect W.BITS (λ v. nat_eq v k)) }
     {
         *self = *self | Set::single(k);
     }
 
-    // Whether the two sets have no member in common.
+    /// Whether the two sets have no member in common.
     pub fn is_disjoint(self, other: Set<W>) -> bool
         ensures { result ≡ not (any W.BITS (λ v. has self v && has other v)) }
     {
         self.word & other.word == 0
     }
 
-    // The lowest member.
+    /// The lowest member.
     pub fn first(self) -> Option<u32>
         ensures { result ≡ lowest W.BITS (has self) }
     {

@@ -2,7 +2,7 @@
 ghost use Rattle.std.specs.Prelude.{ℕ, ◌≤◌};
 ghost use Rattle.std.proofs.Common.{arith};
 
-// A set at this width has members below BITS, and fits one word.
+/// A set at this width has members below BITS, and fits one word.
 pub trait Width: Copy + Drop {
     ghost BITS: { ℕ };
 
@@ -11,7 +11,7 @@ pub trait Width: Copy + Drop {
     const BITS: u32;
 }
 
-// A network has at most 32 nodes.
+/// A network has at most 32 nodes.
 #[derive(Clone, Copy)]
 pub struct OfNodes;
 
@@ -23,7 +23,7 @@ impl Width for OfNodes {
     const BITS: u32 = 32;
 }
 
-// A network has at most 64 branches.
+/// A network has at most 64 branches.
 #[derive(Clone, Copy)]
 pub struct OfBranches;
 

@@ -1,6 +1,6 @@
 -- The sheet of a door by the answers to its run.
-use Rattle.std.proofs.Common.{◌≡◌, ℕ, zero, suc, ◌+◌, ◌-◌, ◌<◌, ◌≤◌, List, [], ◌∷◌, ◌++◌, length, get_or, set, take, Some, None, Ok, Err, Option, fold, sym, refl, ap, ◌∙◌, ap₂, append-nil, add-one, arith}
-use Rattle.std.specs.Result.{result_ok, result_err}
+use Rattle.std.proofs.Common.{◌≡◌, ℕ, zero, suc, ◌+◌, ◌-◌, ◌<◌, ◌≤◌, List, [], ◌∷◌, ◌++◌, length, get_or, set, take, Some, None, Ok, Err, MatchResult, Option, fold, sym, refl, ap, ◌∙◌, ap₂, append-nil, add-one, arith}
+use Rattle.std.specs.Result.{result_ok}
 use Rattle.std.proofs.lemmas.Grind.{flat_map-append}
 use Rattle.std.proofs.lemmas.List.{take_more_set}
 use Rattle.std.proofs.lemmas.List.Sums.{fold_push}
@@ -28,7 +28,7 @@ use Rattle.engine.specs.Studies.{State, no_state, set_up, set_up_by, set_up_answ
 use Rattle.engine.specs.Runs.{after, answer, answered, calls_of}
 use Rattle.engine.proofs.Carried.{answered-push}
 use Rattle.sheet.specs.Sheets.{refused_line, row_line, cut_lines, progress_line, low_line, fine_line, study_text, door_calls, door_text}
-use Rattle.sheet.specs.Answers.{showings, run_calls, aim_fault, row_lines, answers_text}
+use Rattle.sheet.specs.Answers.{showings, run_calls, aimed_in, row_lines, answers_text}
 
 -- one place more asks for its row
 pub showings-more : (places : List (Asked Billionth Decimal)) (k : ℕ) (y : Asked Billionth Decimal) → k < length places → y.call ≡ Show k → calls_of (take k places) ≡ showings k
@@ -102,24 +102,22 @@ module _ (rated : RatedNet) (head d : ℕ) where
   first-aim : set_up_answer net head ≡ Ok tt → aim_answer net d (set_up net head no_state) ≡ door_asked net head d
   first-aim e = ap (λ a. aim_asked net (head_of (set_up_by head no_state a).stage) d) e
 
-  by-neither : (text : List ℕ) (a b : Answer StudyFault) → a ≡ Ok tt → b ≡ Ok tt
-      → text ≡ elim a [ Err fault ↦ refused_line d fault | Ok u ↦ elim b [ Err fault ↦ refused_line d fault | Ok v ↦ text ] ]
-  by-neither text (Ok u) (Ok v) e f = refl
-  by-neither text (Ok u) (Err other) e f = cc
-  by-neither text (Err other) b e f = cc
+  -- the sheet by what the head and the door are asked
+  abbrev told : Answer StudyFault → Answer StudyFault → List ℕ
+  told a b = elim a [ Err fault ↦ refused_line d fault | Ok u ↦ elim b [ Err fault ↦ refused_line d fault | Ok v ↦ study_text rated d (after net head (door_calls d)) ] ]
 
   aim-told : (places : List (Asked Billionth Decimal)) (z : Asked Billionth Decimal) → set_up_answer net head ≡ Ok tt
-      → places ≡ answered net ratings billionths nine_figures 0 (set_up net head no_state) (run_calls d) → aim_fault (get_or places 0 z).answer ≡ result_err (door_asked net head d)
-  aim-told places z e p = ap (λ (l : List (Asked Billionth Decimal)). aim_fault (get_or l 0 z).answer) p ∙ ap result_err (first-aim e)
+      → places ≡ answered net ratings billionths nine_figures 0 (set_up net head no_state) (run_calls d) → aimed_in (get_or places 0 z).answer ≡ door_asked net head d
+  aim-told places z e p = ap (λ (l : List (Asked Billionth Decimal)). aimed_in (get_or l 0 z).answer) p ∙ first-aim e
 
-  pub studied-door : (calls : List Call) (places : List (Asked Billionth Decimal)) (z : Asked Billionth Decimal) → calls ≡ run_calls d → set_up_answer net head ≡ Ok tt
-      → places ≡ answered net ratings billionths nine_figures 0 (set_up net head no_state) calls → None ≡ aim_fault (get_or places 0 z).answer
-      → answers_text d places ≡ door_text rated head d
-  studied-door calls places z r e q h = go (door_asked net head d) refl (h ∙ aim-told places z e p)
-    where
-      p : places ≡ answered net ratings billionths nine_figures 0 (set_up net head no_state) (run_calls d)
-      p = q ∙ ap (answered net ratings billionths nine_figures 0 (set_up net head no_state)) r
+  module _ (calls : List Call) (places : List (Asked Billionth Decimal)) (z : Asked Billionth Decimal) (r : calls ≡ run_calls d) (e : set_up_answer net head ≡ Ok tt)
+      (q : places ≡ answered net ratings billionths nine_figures 0 (set_up net head no_state) calls) where
+    p : places ≡ answered net ratings billionths nine_figures 0 (set_up net head no_state) (run_calls d)
+    p = q ∙ ap (answered net ratings billionths nine_figures 0 (set_up net head no_state)) r
 
-      go : (q : Answer StudyFault) → door_asked net head d ≡ q → None ≡ result_err q → answers_text d places ≡ door_text rated head d
-      go (Ok u) f h = ap (answers_text d) p ∙ study-text e f ∙ by-neither (study_text rated d (after net head (door_calls d))) (set_up_answer net head) (door_asked net head d) e f
-      go (Err other) f h = cc
+    pub studied-door : (aim : Answer StudyFault) → aim ≡ aimed_in (get_or places 0 z).answer
+        → MatchResult aim (λ _. answers_text d places ≡ door_text rated head d) (λ fault. refused_line d fault ≡ door_text rated head d)
+    studied-door (Ok u) h =
+        let accepted : Ok tt ≡ door_asked net head d = h ∙ aim-told places z e p in
+        ap (answers_text d) p ∙ study-text e (sym accepted) ∙ ap₂ told (sym e) accepted
+    studied-door (Err fault) h = ap₂ told (sym e) (h ∙ aim-told places z e p)

@@ -1,8 +1,9 @@
 -- The text of what the calls of a door answered.
-use Rattle.std.specs.Prelude.{ℕ, zero, suc, ◌+◌, List, [], ◌∷◌, ◌++◌, Some, None, Option}
+use Rattle.std.specs.Prelude.{ℕ, zero, suc, ◌+◌, List, [], ◌∷◌, ◌++◌, Some, None, Ok, Option}
 use Rattle.std.specs.List.{flat_map}
-use Rattle.std.specs.Result.{result_ok, result_err}
+use Rattle.std.specs.Result.{result_ok}
 use Rattle.refusals.specs.declared.study_fault.StudyFault.{StudyFault}
+use Rattle.network.specs.Questions.{Answer as Questioned}
 use Rattle.scale.specs.declared.billionths.Billionth.{Billionth}
 use Rattle.scale.specs.declared.nine_figures.Decimal.{Decimal}
 use Rattle.chance.specs.declared.bounds.Bounds.{Bounds}
@@ -29,14 +30,15 @@ run_calls d = door_calls d ++ (AskBounds First ∷ AskBounds Second ∷ showings
 abbrev pub Reply : Type 0
 Reply = Option (Answer Billionth Decimal)
 
-abbrev pub aim_fault : Reply → Option StudyFault
-aim_fault None = None
-aim_fault (Some (said.Aim r)) = result_err r
-aim_fault (Some (said.Advance r)) = None
-aim_fault (Some (said.Show r)) = None
-aim_fault (Some (said.Line r)) = None
-aim_fault (Some (said.FirstBounds r)) = None
-aim_fault (Some (said.SecondBounds r)) = None
+-- a place without the answer of an aim tells no refusal
+abbrev pub aimed_in : Reply → Questioned StudyFault
+aimed_in None = Ok tt
+aimed_in (Some (said.Aim r)) = r
+aimed_in (Some (said.Advance r)) = Ok tt
+aimed_in (Some (said.Show r)) = Ok tt
+aimed_in (Some (said.Line r)) = Ok tt
+aimed_in (Some (said.FirstBounds r)) = Ok tt
+aimed_in (Some (said.SecondBounds r)) = Ok tt
 
 abbrev pub made_in : Reply → Option Progress
 made_in None = None

@@ -3,25 +3,24 @@ ghost use Rattle.std.specs.Prelude.{Some};
 ghost use Rattle.std.specs.Fmt.{WritesOnOk};
 ghost use Rattle.sheet.specs.Answers.{advances_line, row_lines, answers_text};
 
+use crate::door_calls::Place;
 use crate::lines::{write_fine, write_low, write_progress, write_row};
 use crate::replies::{fine_in, low_in, made_in, shown_in};
-use engine::call::Asked;
 use engine::progress::Progress;
-use scale::billionths::Billionth;
-use scale::nine_figures::Decimal;
 use std::fmt;
 
 // What the run of a door answered whose aim was accepted.
 #[derive(Clone, Copy)]
 pub(crate) struct AnswersText<'a> {
     pub(crate) door: u32,
-    pub(crate) places: &'a [Asked<Billionth, Decimal>],
+    pub(crate) places: &'a [Place],
 }
 
 impl<'a> fmt::Display for AnswersText<'a> {
     ghost output = { λ t. Some (answers_text t.door t.places.now) };
 
     fn fmt<W: fmt::Write>(&self, f: &mut fmt::Formatter<W>) -> fmt::Result {
+        // the places of calls_for: the aim, two advances, two bounds, and the rows
         let [_, first, second, low, fine, rows @ ..] = self.places else {
             return Ok(());
         };
@@ -51,10 +50,7 @@ fn write_advances<W: fmt::Write>(
 }
 
 // The rows that were shown.
-fn write_rows<W: fmt::Write>(
-    f: &mut fmt::Formatter<W>,
-    places: &[Asked<Billionth, Decimal>],
-) -> fmt::Result
+fn write_rows<W: fmt::Write>(f: &mut fmt::Formatter<W>, places: &[Place]) -> fmt::Result
     ensures { WritesOnOk W.write_str_gives f.old result (row_lines places.now) f.new }
 {
     for place in places {

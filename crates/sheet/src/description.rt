@@ -12,7 +12,7 @@ use network::branch::TableRow;
 use std::alloc::{AllocError, Global};
 use std::fmt;
 
-// What the deck of these bytes says.
+/// What the deck of these bytes says.
 #[derive(Clone, Copy)]
 pub struct Description<'a> {
     pub bytes: &'a [u8],
@@ -44,7 +44,7 @@ fn write_doors<W: fmt::Write>(f: &mut fmt::Formatter<W>, bytes: &[u8]) -> fmt::R
     Ok(())
 }
 
-// What a deck says, as text.
+/// What a deck says, as text.
 pub fn describe(heap: Global, bytes: &[u8]) -> Result<String, AllocError>
     ensures { IfOk result (λ text. string_bytes text ≡ description bytes.now) }
 {

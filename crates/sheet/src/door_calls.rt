@@ -7,8 +7,11 @@ use engine::call::{Asked, Call, WhichScale};
 use scale::billionths::Billionth;
 use scale::nine_figures::Decimal;
 
+// A call of a door, with the place for its answer in both scales.
+pub(crate) type Place = Asked<Billionth, Decimal>;
+
 // Place k asks for row k.
-fn ask_rows(places: &mut [Asked<Billionth, Decimal>])
+fn ask_rows(places: &mut [Place])
     ensures { calls_of places.new ≡ showings (length places.old) }
 {
     for (k, place) in places.iter_mut().enumerate() {
@@ -17,7 +20,8 @@ fn ask_rows(places: &mut [Asked<Billionth, Decimal>])
 }
 
 // An aim, two advances that suffice for any search, the bounds in both scales, and each row that a table can hold.
-pub(crate) fn calls_for(door: u32) -> [Asked<Billionth, Decimal>; 517]
+// Stays filled place by place: after array::from_fn what each place holds does not prove without new lemmas on showings.
+pub(crate) fn calls_for(door: u32) -> [Place; 517]
     ensures { calls_of result ≡ run_calls door }
 {
     let mut places = [Asked::new(Call::Aim(door)); 517];

@@ -1,10 +1,12 @@
 // The sheet of one door: how its search stands, its cuts and its bounds, or why it is refused.
-ghost use Rattle.std.specs.Prelude.{◌≡◌, ◌++◌, Some, string_bytes, OnOk};
+ghost use Rattle.std.specs.Prelude.{◌≡◌, ℕ, ◌++◌, Some, string_bytes, OnOk, MatchResult};
+ghost use Rattle.engine.specs.Runs.{calls_of};
+ghost use Rattle.sheet.specs.Answers.{run_calls, answers_text};
 ghost use Rattle.sheet.specs.Sheets.{refused_line, door_text, TwoAdvancesEnd};
 
 use crate::answers_text::AnswersText;
-use crate::door_calls::calls_for;
-use crate::replies::aim_fault;
+use crate::door_calls::{Place, calls_for};
+use crate::replies::aimed_in;
 use engine::carry::carry_out;
 use engine::study::Study;
 use network::traits::RatedNetwork;
@@ -15,7 +17,7 @@ use scale::nine_figures::NineFigures;
 use std::alloc::AllocError;
 use std::fmt;
 
-// A door that is refused.
+/// A door that is refused.
 #[derive(Clone, Copy)]
 pub struct RefusedDoor {
     pub door: u32,
@@ -32,9 +34,24 @@ impl fmt::Display for RefusedDoor {
     }
 }
 
-// The sheet of a door, or its refusal, by one run of calls. The study may have held anything before. Where memory fails,
-// nothing is said of the text, since `write!` on a `String` promises nothing there.
-// Stays a text beside a study: both are the caller's, and lent for this call alone.
+// Makes the calls of a door, and answers why the head or the door is refused, if it is.
+fn run_door<N: RatedNetwork>(
+    study: &mut Study,
+    network: &N,
+    head: u32,
+    places: &mut [Place; 517],
+) -> Result<(), StudyFault>
+    ensures { (door : ℕ) → calls_of places.old ≡ run_calls door → MatchResult result
+        (λ _. answers_text door places.new ≡ door_text (N.RatedNetwork.rated network.now) head door)
+        (λ fault. refused_line door fault ≡ door_text (N.RatedNetwork.rated network.now) head door) }
+{
+    carry_out::<Billionths, NineFigures, N>(study, network, head, places, &mut [])?;
+    aimed_in(&places[0])
+}
+
+/// The sheet of a door, or its refusal, by one run of calls. The study may have held anything before. Where memory fails,
+/// nothing is said of the text, since `write!` on a `String` promises nothing there.
+// Stays five parameters: text, study and network are each lent for this call alone, and the door is one of many.
 pub fn write_door<N: RatedNetwork>(
     text: &mut String,
     study: &mut Study,
@@ -45,25 +62,16 @@ pub fn write_door<N: RatedNetwork>(
     ensures { OnOk result (string_bytes text.new ≡ string_bytes text.old ++ door_text (N.RatedNetwork.rated network.now) head door) }
 {
     let mut places = calls_for(door);
-    if let Err(fault) = carry_out::<Billionths, NineFigures, N>(
-        study,
-        network,
-        head,
-        &mut places,
-        &mut [],
-    ) {
-        return write!(text, "{}", RefusedDoor { door, fault });
-    }
-    match aim_fault(&places[0]) {
-        Some(fault) => write!(text, "{}", RefusedDoor { door, fault }),
-        None => {
+    match run_door(study, network, head, &mut places) {
+        Ok(()) => {
             let places = &places;
             write!(text, "{}", AnswersText { door, places })
         }
+        Err(fault) => write!(text, "{}", RefusedDoor { door, fault }),
     }
 }
 
-// On every network the calls that are made for a door bring its search to an end: it is finished, or full.
+/// On every network the calls that are made for a door bring its search to an end: it is finished, or full.
 pub fn two_advances_end()
     ensures { TwoAdvancesEnd }
 {}

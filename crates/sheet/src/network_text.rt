@@ -9,7 +9,7 @@ use network::branches::branches_of;
 use network::traits::RatedNetwork;
 use std::fmt;
 
-// A network with its head: its counts, and then each branch with its rating.
+/// A network with its head: its counts, and then each branch with its rating.
 #[derive(Clone, Copy)]
 pub struct NetworkText<'a, N> {
     pub network: &'a N,

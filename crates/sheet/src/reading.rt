@@ -9,9 +9,9 @@ use network::list::List;
 use network::traits::RatedNetwork;
 use refusals::deck_fault::DeckRefusal;
 
-// The network that a deck tells, over the table that it fills, and the head. A list takes the rows of an accepted deck,
-// since the deck was asked the same questions.
-// Stays a table of the caller with a count beside it: the rules ask for its 64 places, and a list lends them.
+/// The network that a deck tells, over the table that it fills, and the head. A list takes the rows of an accepted deck,
+/// since the deck was asked the same questions.
+// Stays a table of the caller with a count beside it: the rules fix its 64 places, of which the list borrows the first.
 pub fn read_network<'a>(
     bytes: &[u8],
     table: &'a mut [TableRow; 64],

@@ -1,27 +1,28 @@
 // What a place of a run holds, by the kind of its answer.
-// Stays a function for each kind: each names a variant of its own, and as methods of `Answer` they would be the same five.
 ghost use Rattle.std.specs.Prelude.{◌≡◌};
-ghost use Rattle.sheet.specs.Answers.{aim_fault, made_in, shown_in, low_in, fine_in};
+ghost use Rattle.sheet.specs.Answers.{aimed_in, made_in, shown_in, low_in, fine_in};
 
+use crate::door_calls::Place;
 use chance::bounds::Bounds;
-use engine::call::{Answer, Asked};
+use engine::call::Answer;
 use engine::progress::Progress;
 use refusals::study_fault::StudyFault;
 use scale::billionths::Billionth;
 use scale::nine_figures::Decimal;
 
 // Why the aim was refused, if it was.
-pub(crate) fn aim_fault(place: &Asked<Billionth, Decimal>) -> Option<StudyFault>
-    ensures { result ≡ aim_fault place.now.answer }
+// Stays a function for each kind: each names another variant, and as methods of Answer they would be the same five.
+pub(crate) fn aimed_in(place: &Place) -> Result<(), StudyFault>
+    ensures { result ≡ aimed_in place.now.answer }
 {
     match place.answer {
-        Some(Answer::Aim(Err(fault))) => Some(fault),
-        _ => None,
+        Some(Answer::Aim(result)) => result,
+        _ => Ok(()),
     }
 }
 
 // How far an advance came.
-pub(crate) fn made_in(place: &Asked<Billionth, Decimal>) -> Option<Progress>
+pub(crate) fn made_in(place: &Place) -> Option<Progress>
     ensures { result ≡ made_in place.now.answer }
 {
     match place.answer {
@@ -31,7 +32,7 @@ pub(crate) fn made_in(place: &Asked<Billionth, Decimal>) -> Option<Progress>
 }
 
 // The row that was shown.
-pub(crate) fn shown_in(place: &Asked<Billionth, Decimal>) -> Option<(u64, u32)>
+pub(crate) fn shown_in(place: &Place) -> Option<(u64, u32)>
     ensures { result ≡ shown_in place.now.answer }
 {
     match place.answer {
@@ -41,7 +42,7 @@ pub(crate) fn shown_in(place: &Asked<Billionth, Decimal>) -> Option<(u64, u32)>
 }
 
 // The bounds in billionths.
-pub(crate) fn low_in(place: &Asked<Billionth, Decimal>) -> Option<Bounds<Billionth>>
+pub(crate) fn low_in(place: &Place) -> Option<Bounds<Billionth>>
     ensures { result ≡ low_in place.now.answer }
 {
     match place.answer {
@@ -51,7 +52,7 @@ pub(crate) fn low_in(place: &Asked<Billionth, Decimal>) -> Option<Bounds<Billion
 }
 
 // The bounds in nine figures.
-pub(crate) fn fine_in(place: &Asked<Billionth, Decimal>) -> Option<Bounds<Decimal>>
+pub(crate) fn fine_in(place: &Place) -> Option<Bounds<Decimal>>
     ensures { result ≡ fine_in place.now.answer }
 {
     match place.answer {

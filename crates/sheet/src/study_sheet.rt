@@ -28,7 +28,7 @@ fn write_doors<N: RatedNetwork>(
     Ok(())
 }
 
-// The sheet of a deck. What the study held before, of this deck or of another, has no influence on it.
+/// The sheet of a deck. What the study held before, of this deck or of another, has no influence on it.
 pub fn write_sheet(text: &mut String, study: &mut Study, bytes: &[u8]) -> Result<(), AllocError>
     ensures { OnOk result (string_bytes text.new ≡ string_bytes text.old ++ sheet_text bytes.now) }
 {
@@ -39,7 +39,7 @@ pub fn write_sheet(text: &mut String, study: &mut Study, bytes: &[u8]) -> Result
     }
 }
 
-// The sheet of a deck, as text.
+/// The sheet of a deck, as text.
 pub fn sheet_of(heap: Global, bytes: &[u8]) -> Result<String, AllocError>
     ensures { IfOk result (λ text. string_bytes text ≡ sheet_text bytes.now) }
 {

@@ -12,7 +12,7 @@ use scale::billionths::Billionths;
 use scale::nine_figures::NineFigures;
 use std::fmt;
 
-// What a study on this network has found of its door. Where no aim was accepted, it writes nothing.
+/// What a study on this network has found of its door. Where no aim was accepted, it writes nothing.
 #[derive(Clone, Copy)]
 pub struct StudyText<'a, N> {
     pub study: &'a Study,

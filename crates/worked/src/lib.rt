@@ -3,7 +3,7 @@
 
 ghost use Rattle.worked.specs.Cases.{WorkedByHand};
 
-// Ten small studies: rows, vectors, tries, status, refusals, exact chance and bounds.
+/// Ten small studies: rows, vectors, tries, status, refusals, exact chance and bounds.
 pub fn cases_hold()
     ensures { WorkedByHand }
 {}

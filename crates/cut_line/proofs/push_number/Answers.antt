@@ -1,11 +1,10 @@
-use Rattle.std.proofs.Common.{rules}
-use Rattle.cut_line.proofs.Texts.{one-digit, two_digits}
+use Rattle.std.proofs.Common.{◌≡◌, [], ◌∷◌, ◌++◌, length, ap, arith, length-append}
+use Rattle.std.proofs.lemmas.Fmt.{length-decimal-le}
 use Rattle.cut_line.proofs.push_number.Goals as goal
-use Rattle.cut_line.proofs.push_number.Goals.{then-n-ge10, else-n-ge10}
 
-pub returns : goal.returns
-returns c =
-    elim c.if-n-ge10.branch [
-      | then-n-ge10 w ↦ let e = two_digits c.args.line.now.bytes c.args.n w.if-n-ge10.true c.requires.small in search rules
-      | else-n-ge10 w ↦ let e = one-digit c.args.line.now.bytes c.args.n w.if-n-ge10.false in search rules
-    ]
+pub push_str-requires : goal.push_str-requires
+unfolding lib.Utf8.encode
+push_str-requires c =
+    let digits = length-decimal-le 2 c.args.n (omega arith) (omega arith) (omega (arith, c.requires.small)) in
+    let bytes : c.push.new.self.bytes ≡ c.args.line.now.bytes ++ 32 ∷ [] = c.push.ensures.bytes in
+    (omega arith, omega (arith, digits, c.requires.room, ap length c.format.ensures.text, ap length bytes, length-append c.args.line.now.bytes (32 ∷ [])))

@@ -1,4 +1,5 @@
-ghost use Rattle.std.specs.Prelude.{◌≡◌, ◌≤◌, [], length, IfOk, OnOk};
+// The calls of a study.
+ghost use Rattle.std.specs.Prelude.{◌≡◌, ◌≤◌, [], length, IfOk, OnOk, OnErr};
 ghost use Rattle.std.specs.Option.{ok_or};
 ghost use Rattle.refusals.specs.declared.study_fault.StudyFault.TheVariants.{NoAim};
 ghost use Rattle.engine.specs.Stages.{door_of};
@@ -6,7 +7,7 @@ ghost use Rattle.engine.specs.declared.call.Call.TheVariants.{Aim, Advance, Show
 ghost use Rattle.engine.specs.declared.call.WhichScale.{WhichScale};
 ghost use Rattle.engine.specs.Runs.{StandsAfter};
 ghost use Rattle.engine.specs.SoundRuns.{LeadsOn, BoundsEncloseTheChance};
-ghost use Rattle.engine.specs.Studies.{no_state, state_of, Kept, Forgets, set_up, set_up_answer, called, aim_answer, progress, progress_of, advanced_by, advance_answer, show_answer, bounds_answer, line_answer, line_written, standing_answer};
+ghost use Rattle.engine.specs.Studies.{no_state, state_of, Forgets, set_up, set_up_answer, called, aim_answer, progress, progress_of, advanced_by, advance_answer, show_answer, bounds_answer, line_answer, line_written, standing_answer};
 
 use crate::listing::cuts_of;
 use crate::progress::Progress;
@@ -27,7 +28,7 @@ use search::status::Status;
 use search::table::Table;
 
 impl Study {
-    // A study before its first set-up.
+    /// A study before its first set-up.
     pub fn new() -> Study
         ensures { state_of result ≡ no_state }
     {
@@ -38,12 +39,12 @@ impl Study {
         }
     }
 
-    // Takes the head, and leaves no aim.
-    // Stays a clause of each call: `kept` is of the study before and after it, where a ghost field sees one study alone.
+    /// Takes the head, and leaves no aim. Refused with 5 where the head is no node.
+    // Stays clauses of each call: kept and run are of the study before and after it, where a ghost field sees one study alone.
     pub fn set_up<N: Network>(&mut self, network: &N, head: u32) -> Result<(), StudyFault>
         ensures answer { result ≡ set_up_answer (N.net network.now) head }
         ensures state { state_of self.new ≡ set_up (N.net network.now) head (state_of self.old) }
-        ensures kept { Kept result self.old self.new }
+        ensures kept { OnErr result (self.new ≡ self.old) }
         ensures forgets { Forgets (N.net network.now) head result (state_of self.new) }
         ensures run { OnOk result (StandsAfter (N.net network.now) head [] (state_of self.new)) }
     {
@@ -54,13 +55,14 @@ impl Study {
         Ok(())
     }
 
-    // Takes the door, and writes row 0 of its search.
+    /// Takes the door, and writes row 0 of its search. Refused with 6, 7, 8 or 9, and with 6 before a set-up.
     pub fn aim<N: Network>(&mut self, network: &N, door: u32) -> Result<(), StudyFault>
         ensures answer { result ≡ aim_answer (N.net network.now) door (state_of self.old) }
         ensures state { state_of self.new ≡ called (N.net network.now) (state_of self.old) (Aim door) }
-        ensures kept { Kept result self.old self.new }
+        ensures kept { OnErr result (self.new ≡ self.old) }
         ensures run { LeadsOn (N.net network.now) (Aim door) (state_of self.old) (state_of self.new) }
     {
+        // before a set-up no number is a door
         let head = self.stage.head().ok_or(StudyFault::Door)?;
         check_door(network, head, door)?;
         self.stage = Stage::Aimed { head, door };
@@ -97,12 +99,12 @@ impl Study {
         self.progress(network, door, tries)
     }
 
-    // Makes at most so many tries, and answers how far the search has come.
+    /// Makes at most so many tries, and answers how far the search has come. Refused with 10 or 11.
     pub fn advance<N: Network>(&mut self, network: &N, budget: u32) -> Result<Progress, StudyFault>
         ensures answer { result ≡ advance_answer (N.net network.now) budget (state_of self.old) }
         ensures state { state_of self.new ≡ called (N.net network.now) (state_of self.old) (Advance budget) }
         ensures within { IfOk result (λ made. made.tries ≤ budget) }
-        ensures kept { Kept result self.old self.new }
+        ensures kept { OnErr result (self.new ≡ self.old) }
         ensures run { LeadsOn (N.net network.now) (Advance budget) (state_of self.old) (state_of self.new) }
     {
         let door = self.door()?;
@@ -110,14 +112,14 @@ impl Study {
         Ok(self.try_up_to(network, door, budget))
     }
 
-    // The row count.
+    /// The row count.
     pub fn rows(&self) -> usize
         ensures { result ≡ length (state_of self.now).search.rows }
     {
         self.table.len()
     }
 
-    // How the search stands: the tries since the aim, the rows, and the status.
+    /// How the search stands: the tries since the aim, the rows, and the status. Refused with 10.
     pub fn standing<N: Network>(&self, network: &N) -> Result<Progress, StudyFault>
         ensures { result ≡ standing_answer (N.net network.now) (state_of self.now) }
     {
@@ -125,7 +127,7 @@ impl Study {
         Ok(self.progress(network, door, self.tries))
     }
 
-    // The branch set and the node vector of row k.
+    /// The branch set and the node vector of row k, as bare words: bit i stands for number i. Refused with 10 or 12.
     // Stays a pair of bare words: the rules of the project fix that showing answers (u64, u32).
     pub fn show<N: Network>(&self, network: &N, k: usize) -> Result<(u64, u32), StudyFault>
         ensures answer { result ≡ show_answer (N.net network.now) k (state_of self.now) }
@@ -137,7 +139,7 @@ impl Study {
         Ok((branches.into(), nodes.into()))
     }
 
-    // The bounds on the chance that the door is cut off.
+    /// The bounds on the chance that the door is cut off, in a scale of the caller's choice. Refused with 10.
     pub fn bounds<S: Scale, N: RatedNetwork>(
         &self,
         network: &N,
@@ -152,7 +154,8 @@ impl Study {
         Ok(bounds_of::<S, N>(network, cuts.as_slice(), finished))
     }
 
-    // Writes the CUT line of row k into the buffer, and answers its length.
+    /// Writes the CUT line of row k into the buffer, and answers its length; the bytes after it stay. Refused with 10, 12 or
+    /// 13.
     pub fn line<N: Network>(
         &self,
         network: &N,
@@ -161,7 +164,7 @@ impl Study {
     ) -> Result<usize, StudyFault>
         ensures answer { result ≡ line_answer (N.net network.now) k (length buffer.old) (state_of self.now) }
         ensures bytes { buffer.new ≡ line_written (N.net network.now) k buffer.old (state_of self.now) }
-        ensures kept { Kept result buffer.old buffer.new }
+        ensures kept { OnErr result (buffer.new ≡ buffer.old) }
         ensures run { LeadsOn (N.net network.now) (Line k) (state_of self.now) (state_of self.now) }
     {
         let (branches, nodes) = self.show(network, k)?;

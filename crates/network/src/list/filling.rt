@@ -23,7 +23,7 @@ fn check_rows(nodes: u32, table: &[TableRow]) -> Result<(), NetworkFault>
 }
 
 // The questions of a list, in their order.
-// Stays a node count beside a table: together they are a list, which holds only what has passed these.
+// Stays a node count beside a table: together they are a list, which holds only what has passed these questions.
 fn check_table(nodes: u32, table: &[TableRow]) -> Result<(), NetworkFault>
     ensures { result ≡ list_asked nodes table.now }
 {
@@ -43,7 +43,8 @@ impl<'a> List<'a> {
         }
     }
 
-    // Takes the table's branches, or refuses and stays as it was. The refusal is that of the first question answered no.
+    /// Takes the table's branches, or refuses and stays as it was. The refusal is that of the first question answered no: 1,
+    /// 2, and then 3 and 4 for each row in turn.
     #[tactic(auto, using(crate::proofs::Firsts::list_first))]
     pub fn fill(&mut self, nodes: u32, table: &'a [TableRow]) -> Result<(), NetworkFault>
         ensures answer { result ≡ list_asked nodes table.now }

@@ -6,7 +6,7 @@ use crate::rating::Rating;
 use std::fmt;
 
 impl Rating {
-    // The rating of these numbers, where they are legal.
+    /// The rating of these numbers, where they are legal.
     // Stays two bare numbers: a caller's table holds them unchecked, and this is the check.
     pub fn new(mantissa: u32, exponent: u32) -> Option<Rating>
         ensures { result ≡ checked_rating mantissa exponent }
@@ -24,8 +24,6 @@ impl fmt::Display for Rating {
     ghost output = { λ rating. Some (rating_text rating) };
 
     fn fmt<W: fmt::Write>(&self, f: &mut fmt::Formatter<W>) -> fmt::Result {
-        let mantissa = self.mantissa;
-        let exponent = self.exponent;
-        write!(f, "{mantissa} {exponent}")
+        write!(f, "{} {}", self.mantissa, self.exponent)
     }
 }

@@ -44,13 +44,13 @@ impl Scale for Billionths {
 
     fn times_down(x: Billionth, by: Rating) -> Billionth {
         Billionth {
-            units: PowerOfTen::from(by).divide_down(exact_units(x, by)),
+            units: PowerOfTen::under(by).divide_down(exact_units(x, by)),
         }
     }
 
     fn times_up(x: Billionth, by: Rating) -> Billionth {
         Billionth {
-            units: PowerOfTen::from(by).divide_up(exact_units(x, by)),
+            units: PowerOfTen::under(by).divide_up(exact_units(x, by)),
         }
     }
 
@@ -78,7 +78,6 @@ impl fmt::Display for Billionth {
     ghost output = { λ x. Some (decimal x.units) };
 
     fn fmt<W: fmt::Write>(&self, f: &mut fmt::Formatter<W>) -> fmt::Result {
-        let units = self.units;
-        write!(f, "{units}")
+        write!(f, "{}", self.units)
     }
 }

@@ -112,10 +112,7 @@ impl Scale for NineFigures {
 
     // Stays a test for 0 in each operation: 0 has an exponent of its own, and each operation answers it in its own way.
     fn less_down(x: Decimal, y: Decimal) -> Decimal {
-        if y.figures == 0 {
-            return x;
-        }
-        if x.figures == 0 {
+        if x.figures == 0 || y.figures == 0 {
             return x;
         }
         if x.exponent > y.exponent {
@@ -147,8 +144,6 @@ impl fmt::Display for Decimal {
     ghost output = { λ x. Some (decimal x.figures ++ (codes " " ++ decimal x.exponent)) };
 
     fn fmt<W: fmt::Write>(&self, f: &mut fmt::Formatter<W>) -> fmt::Result {
-        let figures = self.figures;
-        let exponent = self.exponent;
-        write!(f, "{figures} {exponent}")
+        write!(f, "{} {}", self.figures, self.exponent)
     }
 }

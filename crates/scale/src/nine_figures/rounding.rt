@@ -8,14 +8,14 @@ use crate::nine_figures::Decimal;
 use crate::powers::PowerOfTen;
 
 // The least and the first past the greatest number of nine figures.
-const NINE: u64 = 100_000_000;
+const LEAST_FIGURES: u64 = 100_000_000;
 
-const TEN: u64 = 1_000_000_000;
+const PAST_FIGURES: u64 = 1_000_000_000;
 
 // The exponent of 1, and the last exponent.
-const WHOLE: u32 = 8;
+const EXPONENT_OF_ONE: u32 = 8;
 
-const LAST: u32 = 60;
+const LAST_EXPONENT: u32 = 60;
 
 pub(crate) fn nought() -> Decimal
     ensures { result ≡ nought }
@@ -30,8 +30,8 @@ pub(crate) fn unit() -> Decimal
     ensures { result ≡ unit }
 {
     Decimal {
-        figures: NINE,
-        exponent: WHOLE,
+        figures: LEAST_FIGURES,
+        exponent: EXPONENT_OF_ONE,
     }
 }
 
@@ -73,9 +73,9 @@ impl FirstNine {
         ensures last { decimal figures exponent <ᶠ decimal (result.down + 1) result.exponent }
         ensures up { (result.up ≡ result.down) × (decimal figures exponent =ᶠ decimal result.down result.exponent) ⊎ (result.up ≡ result.down + 1) × (decimal result.down result.exponent <ᶠ decimal figures exponent) }
     {
-        if first < WHOLE {
+        if first < EXPONENT_OF_ONE {
             let missing = PowerOfTen {
-                exponent: WHOLE - first,
+                exponent: EXPONENT_OF_ONE - first,
             };
             let grown = figures * missing.value();
             return FirstNine {
@@ -85,7 +85,7 @@ impl FirstNine {
             };
         }
         let surplus = PowerOfTen {
-            exponent: first - WHOLE,
+            exponent: first - EXPONENT_OF_ONE,
         };
         FirstNine {
             down: surplus.divide_down(figures),
@@ -99,15 +99,15 @@ impl FirstNine {
     fn number_above(self) -> Decimal
         ensures { result ≡ ceiling (decimal self.up self.exponent) }
     {
-        if self.exponent > LAST {
+        if self.exponent > LAST_EXPONENT {
             return Decimal {
-                figures: NINE,
-                exponent: LAST,
+                figures: LEAST_FIGURES,
+                exponent: LAST_EXPONENT,
             };
         }
-        if self.up == TEN {
+        if self.up == PAST_FIGURES {
             return Decimal {
-                figures: NINE,
+                figures: LEAST_FIGURES,
                 exponent: self.exponent - 1,
             };
         }
@@ -122,7 +122,7 @@ impl FirstNine {
     fn number_below(self) -> Decimal
         ensures { result ≡ floor (decimal self.down self.exponent) }
     {
-        if self.exponent > LAST {
+        if self.exponent > LAST_EXPONENT {
             return nought();
         }
         Decimal {

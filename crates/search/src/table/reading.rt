@@ -8,21 +8,21 @@ use crate::row::Row;
 use crate::table::Table;
 
 impl Table {
-    // How many rows are written.
+    /// How many rows are written.
     pub fn len(&self) -> usize
         ensures { result ≡ length (rows_of self.now) }
     {
         self.count
     }
 
-    // Row k; a number at or past the count has no row.
+    /// Row k; a number at or past the count has no row.
     pub fn row(&self, k: usize) -> Option<Row>
         ensures { result ≡ slice_get (rows_of self.now) k }
     {
         self.rows().get(k).copied()
     }
 
-    // The rows, in the order in which they were written.
+    /// The rows, in the order in which they were written.
     pub fn rows(&self) -> &[Row]
         ensures { result.now ≡ rows_of self.now }
     {

@@ -8,7 +8,7 @@ use crate::table::Table;
 use sets::set::NodeSet;
 
 impl Table {
-    // A table without rows.
+    /// A table without rows.
     pub fn empty() -> Table
         ensures { rows_of result ≡ [] }
     {
@@ -21,14 +21,14 @@ impl Table {
         }
     }
 
-    // Removes all rows.
+    /// Removes all rows.
     pub fn clear(&mut self)
         ensures { rows_of self.new ≡ [] }
     {
         self.count = 0;
     }
 
-    // Removes all rows and writes this one.
+    /// Removes all rows and writes this one.
     pub fn begin(&mut self, row: Row)
         ensures { rows_of self.new ≡ row ∷ [] }
     {
@@ -51,7 +51,6 @@ impl Table {
         requires { k < length (rows_of self.old) }
         ensures { rows_of self.new ≡ barred_at k v (rows_of self.old) }
     {
-        // Stays an assignment: behind an index the proof of an insert does not close.
-        self.rows[k].barred = self.rows[k].barred | NodeSet::single(v);
+        self.rows[k].barred.insert(v);
     }
 }

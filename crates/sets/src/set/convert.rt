@@ -7,7 +7,7 @@ impl From<u32> for NodeSet {
     ghost from_gives = { λ word set. set ≡ word };
 
     fn from(word: u32) -> NodeSet {
-        Set::of(word as u64)
+        Set::of(u64::from(word))
     }
 }
 

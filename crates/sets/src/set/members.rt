@@ -7,7 +7,7 @@ use crate::set::Set;
 use crate::width::Width;
 use std::marker::Model;
 
-// Gives the members that are left, rising. A contract sees the list of these.
+/// Gives the members that are left, rising. A contract sees the list of these.
 #[derive(Drop)]
 pub struct Members<W: Width> {
     rest: Set<W>,

@@ -12,8 +12,8 @@ returns-in_default g c t =
     sym (stands net c.args.door (c.args.budget - c.loop-tries.tries) (searched rows (t + c.loop-tries.tries)) (not_more net c.args.door rows c.next_try.result c.next_try.ensures c.in_default.not-Ok))
     ∙ c.loop-tries.invariant.1 t
 
-pub make-requires : goal.make-requires
-make-requires g c =
+pub apply-requires : goal.apply-requires
+apply-requires g c =
     go-room (g.N.Network.net c.args.network.now) c.args.door (rows_of c.loop-tries.table) c.in-Ok.t c.next_try.result c.next_try.ensures c.in-Ok.is
 
 pub loop-tries-preserved : goal.loop-tries-preserved
@@ -22,7 +22,7 @@ loop-tries-preserved g c =
     let door = c.args.door in
     let rows = rows_of c.loop-tries.table in
     let tries = c.loop-tries.tries in
-    let made = made-is net door rows (rows_of c.make.new.table) c.in-Ok.t c.next_try.result c.next_try.ensures c.in-Ok.is c.make.ensures in (
+    let made = made-is net door rows (rows_of c.apply.new.table) c.in-Ok.t c.next_try.result c.next_try.ensures c.in-Ok.is c.apply.ensures in (
       made.shut,
       λ t.
           ap₂ (λ x n. run net door (c.args.budget - (tries + 1)) (searched x n)) made.same (let e : t + (tries + 1) ≡ t + tries + 1 = omega arith in e)

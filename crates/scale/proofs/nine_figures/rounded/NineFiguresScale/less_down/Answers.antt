@@ -1,15 +1,15 @@
-use Rattle.std.proofs.Common.{◌-◌, ap, ◌∙◌, arith}
+use Rattle.std.proofs.Common.{◌-◌, ap, ◌∙◌, inl, inr, arith}
 use Rattle.scale.specs.Fractions.{decimal}
 use Rattle.scale.specs.NineFigures.{floor}
 use Rattle.scale.specs.NineForms.{some-figures}
 use Rattle.scale.proofs.NineOps.{less-nothing-floor, nothing-less-floor, smaller-less-floor, less-near-floor, less-far-floor}
 use Rattle.scale.proofs.nine_figures.rounded.NineFiguresScale.less_down.Goals as goal
 
-pub returns-then-y-eq0 : goal.returns-then-y-eq0
-returns-then-y-eq0 c = less-nothing-floor c.args.x c.args.y c.if-y-eq0.true
-
 pub returns-then-x-eq0 : goal.returns-then-x-eq0
-returns-then-x-eq0 c = nothing-less-floor c.args.x c.args.y c.if-x-eq0.true
+returns-then-x-eq0 c = elim c.then-x-eq0.either [
+  | inl none ↦ nothing-less-floor c.args.x c.args.y none
+  | inr none ↦ less-nothing-floor c.args.x c.args.y none.1
+]
 
 pub returns-then-x-y : goal.returns-then-x-y
 returns-then-x-y c = c.nought.ensures ∙ smaller-less-floor c.args.x c.args.y (omega arith) (omega arith)

@@ -47,8 +47,8 @@ overflow_mul-grown c =
     let n = grown-nine c.args.figures c.args.first (8 - c.args.first) (omega arith) c.requires.at_first.0 c.requires.at_first.1 in
     rw c.value.ensures.power (omega arith)
 
-pub returns-then-first-lt-WHOLE : goal.returns-then-first-lt-WHOLE
-returns-then-first-lt-WHOLE c =
+pub returns-then-first-lt-EXPONENT_OF_ONE : goal.returns-then-first-lt-EXPONENT_OF_ONE
+returns-then-first-lt-EXPONENT_OF_ONE c =
     let missing = 8 - c.args.first in
     let same = grown-is c.args.figures c.args.exponent missing in
     let pos = pow-positive c.args.exponent in
