@@ -60,6 +60,7 @@ fn bounds_from<S: Scale>(ratings: &Ratings, rows: &[Cut], finished: bool) -> Bou
     ensures high { result.high ≡ high_of S.Scale.arithmetic ratings.now finished (branch_sets rows.now) }
 {
     // S1 and S2 of the rows so far, the best difference, and the sum of up products
+    // Stays a loop with an index: a rule of the project, j bounds the rows before, with which a row is paired.
     let mut s1 = S::zero();
     let mut s2 = S::zero();
     let mut low = None;

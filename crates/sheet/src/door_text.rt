@@ -52,6 +52,7 @@ fn run_door<N: RatedNetwork>(
 /// The sheet of a door, or its refusal, by one run of calls. The study may have held anything before. Where memory fails,
 /// nothing is said of the text, since `write!` on a `String` promises nothing there.
 // Stays five parameters: text, study and network are each lent for this call alone, and the door is one of many.
+// Stays a function over a String: it changes the study, which a Display may not.
 pub fn write_door<N: RatedNetwork>(
     text: &mut String,
     study: &mut Study,
