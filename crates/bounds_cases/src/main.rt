@@ -2,7 +2,7 @@
 // as numbers, bit k for branch k.
 #![tactic(auto)]
 
-use anyhow::{Context, bail};
+use anyhow::Context;
 use chance::bounds::{Bounds, bounds_of};
 use network::branch::TableRow;
 use network::cut::Cut;
@@ -15,6 +15,10 @@ use std::alloc::Global;
 use std::fs;
 use std::io::{BufRead, BufReader};
 use std::rt::Files;
+use std::str::Split;
+
+// What a line without its two words lacks.
+const NAMES: &str = "a case names a file and a status";
 
 // Stays a print for each scale: words and type differ, and the lines of the sheet are of answers, not of bare bounds.
 fn tell_bounds<N: RatedNetwork>(
@@ -38,24 +42,23 @@ fn cut_in(word: &str) -> anyhow::Result<Cut> {
     })
 }
 
-fn cuts_in(heap: Global, words: &[&str]) -> anyhow::Result<Vec<Cut>> {
-    words.iter().map(|word| cut_in(*word)).try_collect(heap)
+fn cuts_in(heap: Global, words: Split<'_, char>) -> anyhow::Result<Vec<Cut>> {
+    words.map(cut_in).try_collect(heap)
 }
 
 fn tell_case(rt: &(impl Files + Print + AllocGlobal), line: &str) -> anyhow::Result<()> {
     println!(rt; "{line}")?;
-    let words: Vec<&str> = line.split(' ').collect(rt.alloc())?;
-    let [file, status, sets @ ..] = words.as_slice() else {
-        bail!("a case names a file and a status");
-    };
-    let bytes = fs::read(rt, *file)?;
+    let mut words = line.split(' ');
+    let file = words.next().context(NAMES)?;
+    let status = words.next().context(NAMES)?;
+    let bytes = fs::read(rt, file)?;
     let mut table = [TableRow::default(); 64];
     // Stays in both programs that read the network of a deck: the list borrows the table, which a function could not hand out.
     let (network, _) = read_network(&bytes, &mut table)
         .ok()
         .context("the deck is refused")?;
-    let cuts = cuts_in(rt.alloc(), sets)?;
-    tell_bounds(rt, &network, &cuts, *status == "FINISHED")
+    let cuts = cuts_in(rt.alloc(), words)?;
+    tell_bounds(rt, &network, &cuts, status == "FINISHED")
 }
 
 fn main(rt: HostRuntime) -> anyhow::Result<()> {

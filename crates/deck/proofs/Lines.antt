@@ -1,5 +1,5 @@
 -- The state between two lines, and one line more.
-use Rattle.std.proofs.Common.{◌≡◌, ℕ, ◌+◌, List, [], ◌∷◌, map, length, Ok, Err, Result, refl, ap, ◌∙◌, subst, arith}
+use Rattle.std.proofs.Common.{◌≡◌, ℕ, ◌+◌, ◌≤◌, List, [], ◌∷◌, map, length, Ok, Err, Result, refl, ap, ◌∙◌, subst, arith}
 use Rattle.refusals.specs.declared.deck_fault.DeckFault.{DeckFault}
 use Rattle.deck.specs.Words.{words}
 use Rattle.deck.specs.Cards.{card_on, cards}
@@ -17,6 +17,7 @@ pub record Between (bytes : List ℕ) (left : Lines) (d : Draft) : Type 0 where
   pub holds : Holds d es
   pub at : left.number ≡ length es + 1
   pub reads : read_cards [] (cards bytes) ≡ read_cards es (cards left.rest.now)
+  pub room : left.number + length left.rest.now ≤ 65537
 
 module _ (bytes : List ℕ) (before left : Lines) (line : Line) (d : Draft) (now : Between bytes before d) (g : GivesLine before line left) where
   told : (o : Result Entry DeckFault) → card_after now.es (card_on (words line.bytes.now)) ≡ o → read_cards [] (cards bytes) ≡ answer now.es (cards left.rest.now) (length now.es + 1) o
@@ -30,6 +31,7 @@ module _ (bytes : List ℕ) (before left : Lines) (line : Line) (d : Draft) (now
     holds = q.1;
     at = omega (arith, now.at, g.next);
     reads = told (Ok e) p;
+    room = omega (arith, now.room, g.shorter);
   }
   taken after (Err f) p q = absurd cc
 

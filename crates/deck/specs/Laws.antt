@@ -120,7 +120,7 @@ pub record DeckLaws (bs : List ℕ) (table : List TableRow) (answer : Result Dec
       → take refusal.line (cards others) ≡ take refusal.line (cards bs) → answer ≡ deck_read (read_bytes (length table) others)
   pub a_refusal_leaves_the_table : (refusal : DeckRefusal) → answer ≡ Err refusal → after ≡ table
 
--- what Doors::new promises of the bytes: the doors that next_door will give
+-- what Doors::new promises of the bytes: the doors that it will give
 pub record DoorLaws (bs : List ℕ) : Type 0 where
   pub doors_of_an_accepted_deck : (places : ℕ) (es : List Entry) → read_bytes places bs ≡ Ok es → doors_in (cards bs) ≡ doors_of es
   pub doors_of_a_written_plan : (plan : Plan) → Sound plan → bs ≡ written plan → doors_in (cards bs) ≡ plan.doors

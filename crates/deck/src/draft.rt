@@ -1,5 +1,5 @@
 // A deck as it is read, card by card.
-ghost use Rattle.std.specs.Prelude.{◌≡◌, ◌≤◌, true, [], ◌++◌, List, length, drop};
+ghost use Rattle.std.specs.Prelude.{◌≡◌, ◌^◌, ◌<◌, ◌≤◌, true, [], ◌++◌, List, length, drop};
 ghost use Rattle.arrayvec.specs.ArrayVec.{array_vec_len};
 ghost use Rattle.network.specs.Questions.{asked};
 ghost use Rattle.refusals.specs.declared.deck_fault.DeckFault.TheVariants.{Turn};
@@ -61,7 +61,7 @@ pub(crate) struct Draft {
     section: Section,
     nodes: u32,
     head: u32,
-    door: Option<usize>,
+    door: Option<u32>,
     rows: ArrayVec<TableRow, 64>,
 }
 
@@ -122,7 +122,7 @@ impl Draft {
         Ok(())
     }
 
-    fn put_door(&mut self, line: usize, operands: Operands<'_>) -> Result<(), DeckFault>
+    fn put_door(&mut self, line: u32, operands: Operands<'_>) -> Result<(), DeckFault>
         ensures { Takes self.old door_word line (words_left operands.entry) result self.new }
     {
         self.section.check_turn(Section::Doors)?;
@@ -134,6 +134,7 @@ impl Draft {
 
     // The next card of the deck.
     pub(crate) fn put(&mut self, card: Card<'_>) -> Result<(), DeckFault>
+        requires { line_of card < 2 ^ 32 }
         ensures { Takes
             self.old
             (keyword_of card.entry)
@@ -147,7 +148,7 @@ impl Draft {
             Card::Branch { operands, .. } => self.put_branch(operands),
             Card::Failed { operands, .. } => self.put_mark(operands, Condition::Failed),
             Card::Working { operands, .. } => self.put_mark(operands, Condition::Working),
-            Card::Door { line, operands } => self.put_door(line, operands),
+            Card::Door { line, operands } => self.put_door(line as u32, operands),
         }
     }
 

@@ -1,5 +1,5 @@
 // Reading a whole deck into a caller's table.
-ghost use Rattle.std.specs.Prelude.{◌≡◌, ◌≤◌, [], length};
+ghost use Rattle.std.specs.Prelude.{◌≡◌, ◌^◌, ◌<◌, ◌≤◌, [], length};
 ghost use Rattle.deck.specs.Cards.{cards};
 ghost use Rattle.deck.specs.Decks.{read_cards, read_bytes, deck_read, table_after, bytes_asked};
 ghost use Rattle.deck.specs.Refusing.{deck_questions, first_no_on, refusal_on};
@@ -18,11 +18,12 @@ pub struct Deck {
     pub nodes: u32,
     pub head: u32,
     pub branches: u32,
-    pub door_line: usize,
+    pub door_line: u32,
 }
 
 // One line more in the draft.
 fn read_line(draft: &mut Draft, line: Line<'_>) -> Result<(), DeckFault>
+    requires { line.number < 2 ^ 32 }
     ensures { TakesLine draft.old line.entry.number line.entry.bytes.now result draft.new }
 {
     draft.put(card_of(line)?)
@@ -30,15 +31,16 @@ fn read_line(draft: &mut Draft, line: Line<'_>) -> Result<(), DeckFault>
 
 // The deck of all lines, and the draft that holds its rows.
 fn read_lines(bytes: &[u8]) -> Result<(Deck, Draft), DeckRefusal>
+    requires short { length bytes.now ≤ 65536 }
     ensures { ReadTo (read_cards [] (cards bytes.now)) result }
 {
     let mut draft = Draft::new();
     let mut lines = Lines::new(bytes);
     // Stays a while let: after a for over lines.by_ref() the proof no longer knows where the lines ended.
     while let Some(line) = lines.next() {
-        read_line(&mut draft, line).map_err(|fault| fault.at(line.number))?;
+        read_line(&mut draft, line).map_err(|fault| fault.at(line.number as u32))?;
     }
-    let deck = draft.deck().map_err(|fault| fault.at(lines.number))?;
+    let deck = draft.deck().map_err(|fault| fault.at(lines.number as u32))?;
     Ok((deck, draft))
 }
 

@@ -2,14 +2,15 @@
 #![tactic(auto)]
 
 use sheet::description::describe;
-use std::fs;
 use std::io::{BufRead, BufReader};
 use std::rt::Files;
+use std::{fmt, fs};
 
 // Stays beside study_file of plans: that one hands a study from file to file, and this has none.
 fn describe_file(rt: &(impl Files + Print + AllocGlobal), name: &str) -> anyhow::Result<()> {
     let bytes = fs::read(rt, name)?;
-    let text = describe(rt.alloc(), &bytes)?;
+    // Want of memory for the text is told in the words in which this program always told it.
+    let text = describe(rt.alloc(), &bytes).map_err(|_| fmt::Error)?;
     print!(rt; "FILE {name}\n{text}")?;
     Ok(())
 }

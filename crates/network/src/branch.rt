@@ -57,23 +57,26 @@ pub struct TableRow {
     pub condition: Condition,
 }
 
-// Stands in places of a table that hold no branch yet.
 // Stays by hand: a derived default would have exponent 0, which is in no rating.
 impl Default for TableRow {
     ghost is_default = { λ row. row ≡ blank_row };
 
     fn default() -> TableRow {
-        TableRow {
-            from: 0,
-            to: 0,
-            mantissa: 0,
-            exponent: 9,
-            condition: Condition::Able,
-        }
+        TableRow::BLANK
     }
 }
 
 impl TableRow {
+    /// Stands in places of a table that hold no branch yet.
+    // Stays beside `Default`, which answers it: a public name.
+    pub const BLANK: TableRow = TableRow {
+        from: 0,
+        to: 0,
+        mantissa: 0,
+        exponent: 9,
+        condition: Condition::Able,
+    };
+
     /// The rating, where its numbers are legal.
     pub fn rating(&self) -> Option<Rating>
         ensures { result ≡ checked_rating self.now.mantissa self.now.exponent }

@@ -2,13 +2,14 @@
 // second list, the node at which they are joined, the branch of the joint that is out, and the branch that is sure.
 #![tactic(auto)]
 
-ghost use Rattle.std.specs.Prelude.{◌≡◌, IfOk, ◌<◌, ◌≤◌, max, min, map, [], is_ok, if◌then◌else◌, vec_items};
+ghost use Rattle.std.specs.Prelude.{◌≡◌, ◌<◌, ◌≤◌, max, min, map, [], is_ok, if◌then◌else◌};
 ghost use Rattle.std.specs.List.{range_with_len};
 ghost use Rattle.network.specs.Meaning.{empty_net, list_rated};
 ghost use Rattle.network.specs.Questions.{list_asked};
 ghost use Rattle.piles.specs.Rows.{row_of};
 
 use anyhow::Context;
+use arrayvec::ArrayVec;
 use layers::joint::Joint;
 use layers::mark::{Out, Sure};
 use network::branch::{Condition, TableRow};
@@ -18,7 +19,6 @@ use network::traits::RatedNetwork;
 use refusals::layer::Refusal;
 use refusals::network_fault::NetworkFault;
 use sheet::network_text::NetworkText;
-use std::alloc::{AllocError, Global};
 use std::io::{BufRead, BufReader};
 use std::str::{FromStr, Split};
 
@@ -44,14 +44,21 @@ fn tell_refusal(rt: &impl Print, what: &str, fault: NetworkFault) -> anyhow::Res
     Ok(())
 }
 
-// The list of these rows; where they are refused, which is told, the empty network that it was at first.
-fn listed<'a>(rt: &impl Print, nodes: u32, rows: &'a [TableRow]) -> anyhow::Result<List<'a>>
-    ensures { IfOk result (λ list. ⟦<List<'a> as RatedNetwork>⟧.rated list ≡ (if is_ok (list_asked nodes rows.now) then list_rated nodes rows.now else record { plain = empty_net; ratings = [] })) }
+// The list of these rows; where they are refused, the empty network that it was at first.
+fn listed<'a>(nodes: u32, rows: &'a [TableRow]) -> List<'a>
+    ensures { ⟦<List<'a> as RatedNetwork>⟧.rated result ≡ (if is_ok (list_asked nodes rows.now) then list_rated nodes rows.now else record { plain = empty_net; ratings = [] }) }
 {
     let mut list = List::new();
-    list.fill(nodes, rows)
-        .or_else(|fault| tell_refusal(rt, "LIST", fault))?;
-    Ok(list)
+    // refused, it stays as it was; `tell_list` tells why
+    let _ = list.fill(nodes, rows);
+    list
+}
+
+// Why these rows are refused, where they are. It has a list of its own: `listed` hands out the list, and no fault.
+fn tell_list(rt: &impl Print, nodes: u32, rows: &[TableRow]) -> anyhow::Result<()> {
+    List::new()
+        .fill(nodes, rows)
+        .or_else(|fault| tell_refusal(rt, "LIST", fault))
 }
 
 fn number(words: &mut Split<'_, char>) -> anyhow::Result<u32> {
@@ -74,14 +81,17 @@ impl Size {
     }
 
     // The rows of the list, but no more than a table has places.
-    fn rows(self, heap: Global, mantissa: u32, exponent: u32) -> Result<Vec<TableRow>, AllocError>
+    // Stays a loop: to collect into an `ArrayVec` may be refused.
+    fn rows(self, mantissa: u32, exponent: u32) -> ArrayVec<TableRow, 70>
         requires { mantissa ≤ 1000000 }
-        ensures { IfOk result (λ rows. vec_items rows ≡ map (λ k. row_of (max self.nodes 1) k mantissa exponent) (range_with_len 0 (min self.branches 70))) }
+        ensures { result.items ≡ map (λ k. row_of (max self.nodes 1) k mantissa exponent) (range_with_len 0 (min self.branches 70)) }
     {
         let round = self.nodes.max(1);
-        (0..self.branches.min(PLACES))
-            .map(|k| row(round, k, mantissa, exponent))
-            .collect(heap)
+        let mut rows = ArrayVec::new();
+        for k in 0..self.branches.min(PLACES) {
+            rows.push(row(round, k, mantissa, exponent));
+        }
+        rows
     }
 }
 
@@ -132,17 +142,19 @@ impl Case {
     }
 
     // The two lists joined; then the ring.
-    fn tell(self, rt: &(impl Print + AllocGlobal)) -> anyhow::Result<()> {
-        let first_rows = self.first.rows(rt.alloc(), 1000, 9)?;
-        let second_rows = self.second.rows(rt.alloc(), 2000, 18)?;
-        let first = listed(rt, self.first.nodes, &first_rows)?;
-        let second = listed(rt, self.second.nodes, &second_rows)?;
+    fn tell(self, rt: &impl Print) -> anyhow::Result<()> {
+        let first_rows = self.first.rows(1000, 9);
+        let second_rows = self.second.rows(2000, 18);
+        tell_list(rt, self.first.nodes, &first_rows)?;
+        tell_list(rt, self.second.nodes, &second_rows)?;
+        let first = listed(self.first.nodes, &first_rows);
+        let second = listed(self.second.nodes, &second_rows);
         self.tell_pile(rt, &first, &second)?;
         self.tell_ring(rt, &second)
     }
 }
 
-fn tell_case(rt: &(impl Print + AllocGlobal), line: &str) -> anyhow::Result<()> {
+fn tell_case(rt: &impl Print, line: &str) -> anyhow::Result<()> {
     println!(rt; "CASE {line}")?;
     line.parse::<Case>()?.tell(rt)
 }

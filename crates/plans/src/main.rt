@@ -4,9 +4,9 @@
 
 use engine::study::Study;
 use sheet::study_sheet::write_sheet;
-use std::fs;
 use std::io::{BufRead, BufReader};
 use std::rt::Files;
+use std::{fmt, fs};
 
 fn study_file(
     rt: &(impl Files + Print + AllocGlobal),
@@ -15,7 +15,8 @@ fn study_file(
 ) -> anyhow::Result<()> {
     let bytes = fs::read(rt, name)?;
     let mut text = String::new(rt.alloc());
-    write_sheet(&mut text, study, &bytes)?;
+    // Want of memory for the text is told in the words in which this program always told it.
+    write_sheet(&mut text, study, &bytes).map_err(|_| fmt::Error)?;
     print!(rt; "FILE {name}\n{text}")?;
     Ok(())
 }

@@ -72,12 +72,12 @@ impl From<DeckFault> for Refusal {
 #[derive(Clone, Copy, Debug, PartialEq, Eq)]
 pub struct DeckRefusal {
     pub fault: DeckFault,
-    pub line: usize,
+    pub line: u32,
 }
 
 impl DeckFault {
     /// The fault with the line where it stands, counted from 1.
-    pub fn at(self, line: usize) -> DeckRefusal
+    pub fn at(self, line: u32) -> DeckRefusal
         ensures { result ≡ record { fault = self; line = line } }
     {
         DeckRefusal { fault: self, line }

@@ -1,6 +1,5 @@
 -- The text of what the calls of a door answered.
-use Rattle.std.specs.Prelude.{ℕ, zero, suc, ◌+◌, List, [], ◌∷◌, ◌++◌, Some, None, Ok, Option}
-use Rattle.std.specs.List.{flat_map}
+use Rattle.std.specs.Prelude.{ℕ, ◌+◌, List, [], ◌∷◌, ◌++◌, Some, None, Ok, Option}
 use Rattle.std.specs.Result.{result_ok}
 use Rattle.refusals.specs.declared.study_fault.StudyFault.{StudyFault}
 use Rattle.network.specs.Questions.{Answer as Questioned}
@@ -12,18 +11,13 @@ use Rattle.engine.specs.declared.call.Answer.{Answer}
 use Rattle.engine.specs.declared.call.Answer.TheVariants as said
 use Rattle.engine.specs.declared.call.Asked.{Asked}
 use Rattle.engine.specs.declared.call.Call.{Call}
-use Rattle.engine.specs.declared.call.Call.TheVariants.{Show, Bounds as AskBounds}
+use Rattle.engine.specs.declared.call.Call.TheVariants.{Bounds as AskBounds}
 use Rattle.engine.specs.declared.call.WhichScale.TheVariants.{First, Second}
-use Rattle.sheet.specs.Sheets.{progress_line, row_line, low_line, fine_line, door_calls}
+use Rattle.sheet.specs.Sheets.{progress_line, low_line, fine_line, door_calls}
 
--- showings of the first n rows
-unfoldable pub showings : ℕ → List Call
-showings zero = []
-showings (suc n) = showings n ++ (Show n ∷ [])
-
--- the whole run of a door: after the calls that end its search, a question for the bounds in each scale, and a showing of each row that a table can hold
+-- the run of a door: after the calls that end its search, a question for the bounds in each scale
 abbrev pub run_calls : ℕ → List Call
-run_calls d = door_calls d ++ (AskBounds First ∷ AskBounds Second ∷ showings 512)
+run_calls d = door_calls d ++ (AskBounds First ∷ AskBounds Second ∷ [])
 
 -- what a place holds, where it holds an answer of this kind
 
@@ -48,15 +42,6 @@ made_in (Some (said.Show r)) = None
 made_in (Some (said.Line r)) = None
 made_in (Some (said.FirstBounds r)) = None
 made_in (Some (said.SecondBounds r)) = None
-
-abbrev pub shown_in : Reply → Option (ℕ × ℕ)
-shown_in None = None
-shown_in (Some (said.Aim r)) = None
-shown_in (Some (said.Advance r)) = None
-shown_in (Some (said.Show r)) = result_ok r
-shown_in (Some (said.Line r)) = None
-shown_in (Some (said.FirstBounds r)) = None
-shown_in (Some (said.SecondBounds r)) = None
 
 abbrev pub low_in : Reply → Option (Bounds Billionth)
 low_in None = None
@@ -84,11 +69,8 @@ advances_line d None second = []
 advances_line d (Some first) None = []
 advances_line d (Some first) (Some second) = progress_line d (first.tries + second.tries) second.rows second.status
 
-abbrev pub row_lines : List (Asked Billionth Decimal) → List ℕ
-row_lines places = flat_map (λ place. row_line (shown_in place.answer)) places
-
--- the sheet of a door by the answers to its run: an aim, two advances, bounds in both scales, and rows
-abbrev pub answers_text : ℕ → List (Asked Billionth Decimal) → List ℕ
-answers_text d (aim ∷ first ∷ second ∷ low ∷ fine ∷ rows) =
-    advances_line d (made_in first.answer) (made_in second.answer) ++ (row_lines rows ++ (low_line (low_in low.answer) ++ fine_line (fine_in fine.answer)))
-answers_text d _ = []
+-- the sheet of a door by the answers to its run, an aim, two advances and bounds in both scales, with the lines of its rows
+abbrev pub answers_text : ℕ → List (Asked Billionth Decimal) → List ℕ → List ℕ
+answers_text d (aim ∷ first ∷ second ∷ low ∷ fine ∷ []) rows =
+    advances_line d (made_in first.answer) (made_in second.answer) ++ (rows ++ (low_line (low_in low.answer) ++ fine_line (fine_in fine.answer)))
+answers_text d _ rows = []

@@ -1,8 +1,9 @@
 // The sheet of one door: how its search stands, its cuts and its bounds, or why it is refused.
-ghost use Rattle.std.specs.Prelude.{◌≡◌, ℕ, ◌++◌, Some, string_bytes, OnOk, MatchResult};
+ghost use Rattle.std.specs.Prelude.{◌≡◌, ℕ, ◌++◌, Some, length, string_bytes, OnOk, MatchResult};
 ghost use Rattle.engine.specs.Runs.{calls_of};
+ghost use Rattle.engine.specs.Studies.{state_of};
 ghost use Rattle.sheet.specs.Answers.{run_calls, answers_text};
-ghost use Rattle.sheet.specs.Sheets.{refused_line, door_text, TwoAdvancesEnd};
+ghost use Rattle.sheet.specs.Sheets.{refused_line, cut_lines, door_text, TwoAdvancesEnd};
 
 use crate::answers_text::AnswersText;
 use crate::door_calls::{Place, calls_for};
@@ -39,18 +40,18 @@ fn run_door<N: RatedNetwork>(
     study: &mut Study,
     network: &N,
     head: u32,
-    places: &mut [Place; 517],
+    places: &mut [Place; 5],
 ) -> Result<(), StudyFault>
     ensures { (door : ℕ) → calls_of places.old ≡ run_calls door → MatchResult result
-        (λ _. answers_text door places.new ≡ door_text (N.RatedNetwork.rated network.now) head door)
+        (λ _. answers_text door places.new (cut_lines (N.Network.net network.now) (state_of study.new) (length (state_of study.new).search.rows)) ≡ door_text (N.RatedNetwork.rated network.now) head door)
         (λ fault. refused_line door fault ≡ door_text (N.RatedNetwork.rated network.now) head door) }
 {
     carry_out::<Billionths, NineFigures, N>(study, network, head, places, &mut [])?;
     aimed_in(&places[0])
 }
 
-/// The sheet of a door, or its refusal, by one run of calls. The study may have held anything before. Where memory fails,
-/// nothing is said of the text, since `write!` on a `String` promises nothing there.
+/// The sheet of a door, or its refusal, by one run of calls, after which the study shows its rows. The study may have held
+/// anything before. Where memory fails, nothing is said of the text, since `write!` on a `String` promises nothing there.
 // Stays five parameters: text, study and network are each lent for this call alone, and the door is one of many.
 // Stays a function over a String: it changes the study, which a Display may not.
 pub fn write_door<N: RatedNetwork>(
@@ -65,8 +66,13 @@ pub fn write_door<N: RatedNetwork>(
     let mut places = calls_for(door);
     match run_door(study, network, head, &mut places) {
         Ok(()) => {
-            let places = &places;
-            write!(text, "{}", AnswersText { door, places })
+            let answers = AnswersText {
+                door,
+                places: &places,
+                study,
+                network,
+            };
+            write!(text, "{answers}")
         }
         Err(fault) => write!(text, "{}", RefusedDoor { door, fault }),
     }

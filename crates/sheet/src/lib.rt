@@ -9,5 +9,6 @@ mod lines;
 pub mod network_text;
 pub mod reading;
 mod replies;
+mod rows_text;
 pub mod study_sheet;
 pub mod study_text;

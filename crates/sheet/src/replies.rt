@@ -1,6 +1,6 @@
 // What a place of a run holds, by the kind of its answer.
 ghost use Rattle.std.specs.Prelude.{◌≡◌};
-ghost use Rattle.sheet.specs.Answers.{aimed_in, made_in, shown_in, low_in, fine_in};
+ghost use Rattle.sheet.specs.Answers.{aimed_in, made_in, low_in, fine_in};
 
 use crate::door_calls::Place;
 use chance::bounds::Bounds;
@@ -11,7 +11,7 @@ use scale::billionths::Billionth;
 use scale::nine_figures::Decimal;
 
 // Why the aim was refused, if it was.
-// Stays a function for each kind: each names another variant, and as methods of Answer they would be the same five.
+// Stays a function for each kind: each names another variant, and as methods of Answer they would be the same four.
 pub(crate) fn aimed_in(place: &Place) -> Result<(), StudyFault>
     ensures { result ≡ aimed_in place.now.answer }
 {
@@ -27,16 +27,6 @@ pub(crate) fn made_in(place: &Place) -> Option<Progress>
 {
     match place.answer {
         Some(Answer::Advance(Ok(made))) => Some(made),
-        _ => None,
-    }
-}
-
-// The row that was shown.
-pub(crate) fn shown_in(place: &Place) -> Option<(u64, u32)>
-    ensures { result ≡ shown_in place.now.answer }
-{
-    match place.answer {
-        Some(Answer::Show(Ok(row))) => Some(row),
         _ => None,
     }
 }

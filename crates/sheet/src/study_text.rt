@@ -1,10 +1,11 @@
 // A study in words: how its search stands, its cuts, and its bounds in both scales.
-ghost use Rattle.std.specs.Prelude.{Some, length};
+ghost use Rattle.std.specs.Prelude.{Some};
 ghost use Rattle.std.specs.Fmt.{WritesOnOk};
 ghost use Rattle.engine.specs.Studies.{state_of, standing_answer};
-ghost use Rattle.sheet.specs.Sheets.{standing_line, cut_lines, study_text};
+ghost use Rattle.sheet.specs.Sheets.{standing_line, study_text};
 
-use crate::lines::{write_fine, write_low, write_progress, write_row};
+use crate::lines::{write_fine, write_low, write_progress};
+use crate::rows_text::write_rows;
 use engine::progress::Progress;
 use engine::study::Study;
 use network::traits::{Network, RatedNetwork};
@@ -51,19 +52,4 @@ fn write_standing<W: fmt::Write, N: Network>(
         ) => write_progress(f, door, u64::from(tries), rows, status),
         Err(_) => Ok(()),
     }
-}
-
-// Stays apart from the rows of answers: one text would take an iterator, whose contract is longer than both loops.
-fn write_rows<W: fmt::Write, N: Network>(
-    f: &mut fmt::Formatter<W>,
-    study: &Study,
-    network: &N,
-) -> fmt::Result
-    ensures { WritesOnOk W.write_str_gives f.old result (cut_lines (N.Network.net network.now) (state_of study.now) (length (state_of study.now).search.rows)) f.new }
-{
-    // Stays a loop over row numbers: `show` takes the number, and refuses it where there is no such row.
-    for k in 0..study.rows() {
-        write_row(f, study.show(network, k).ok())?;
-    }
-    Ok(())
 }

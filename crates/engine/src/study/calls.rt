@@ -9,11 +9,12 @@ ghost use Rattle.engine.specs.Runs.{StandsAfter};
 ghost use Rattle.engine.specs.SoundRuns.{LeadsOn, BoundsEncloseTheChance};
 ghost use Rattle.engine.specs.Studies.{no_state, state_of, Forgets, set_up, set_up_answer, called, aim_answer, progress, progress_of, advanced_by, advance_answer, show_answer, bounds_answer, line_answer, line_written, standing_answer};
 
-use crate::listing::cuts_of;
+use crate::listing::list_cuts;
 use crate::progress::Progress;
 use crate::questions::{check_budget, check_door};
 use crate::stage::Stage;
 use crate::study::Study;
+use arrayvec::ArrayVec;
 use chance::bounds::{Bounds, bounds_of};
 use cut_line::write_cut;
 use network::cut::Cut;
@@ -149,7 +150,8 @@ impl Study {
         ensures chance { BoundsEncloseTheChance (N.RatedNetwork.rated network.now) S.Scale.arithmetic (state_of self.now) }
     {
         let door = self.door()?;
-        let cuts = cuts_of(network, &self.table);
+        let mut cuts = ArrayVec::new();
+        list_cuts(network, &self.table, &mut cuts);
         let finished = status_of(&self.table, network, door) == Status::Finished;
         Ok(bounds_of::<S, N>(network, cuts.as_slice(), finished))
     }

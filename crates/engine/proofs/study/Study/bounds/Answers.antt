@@ -14,7 +14,7 @@ returns-in_err-door-clause-chance g c = bounds-enclose _ (g.N.RatedNetwork.legal
 pub returns-clause-answer : goal.returns-clause-answer
 returns-clause-answer g c =
     let sets : branch_sets c.as_slice.result.now ≡ listed (g.N.Network.net c.args.network.now) (state_of c.args.self.now).search =
-    ap branch_sets (c.as_slice.ensures.value ∙ c.cuts_of-cuts.ensures) ∙ map-map _ _ _ in
+    ap branch_sets (c.as_slice.ensures.value ∙ c.list_cuts.ensures) ∙ map-map _ _ _ in
     search rules
 
 pub returns-clause-run : goal.returns-clause-run

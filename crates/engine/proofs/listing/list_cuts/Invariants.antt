@@ -1,7 +1,7 @@
 use Rattle.std.proofs.Common.{◌≡◌, map, take}
 use Rattle.search.specs.Tables.{rows_of}
 use Rattle.search.specs.Listed.{row_cut}
-use Rattle.engine.proofs.listing.cuts_of.Given as goal
+use Rattle.engine.proofs.listing.list_cuts.Given as goal
 
 -- the cuts of the rows so far
 abbrev pub invariant-loop-row : goal.invariant-loop-row

@@ -3,7 +3,7 @@ use Rattle.std.proofs.Output.{has_written_append, has_written_of_eq}
 use Rattle.engine.specs.Studies.{state_of}
 use Rattle.sheet.specs.Sheets.{cut_lines}
 use Rattle.sheet.proofs.Rows.{cut_lines_more}
-use Rattle.sheet.proofs.study_text.write_rows.Goals as goal
+use Rattle.sheet.proofs.rows_text.write_rows.Goals as goal
 
 pub loop-k-init : goal.loop-k-init
 unfolding cut_lines

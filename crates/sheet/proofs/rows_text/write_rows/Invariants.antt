@@ -1,7 +1,7 @@
 use Rattle.std.specs.Fmt.{HasWritten, IsPlainFormatter}
 use Rattle.engine.specs.Studies.{state_of}
 use Rattle.sheet.specs.Sheets.{cut_lines}
-use Rattle.sheet.proofs.study_text.write_rows.Given as goal
+use Rattle.sheet.proofs.rows_text.write_rows.Given as goal
 
 -- the lines of the rows so far
 abbrev pub invariant-loop-k : goal.invariant-loop-k
