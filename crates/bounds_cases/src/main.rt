@@ -17,8 +17,8 @@ use std::io::{BufRead, BufReader};
 use std::rt::Files;
 use std::str::Split;
 
-// What a line without its two words lacks.
-const NAMES: &str = "a case names a file and a status";
+// What is said of a line without its first two words.
+const CASE_FORM: &str = "a case names a file and a status";
 
 // Stays a print for each scale: words and type differ, and the lines of the sheet are of answers, not of bare bounds.
 fn tell_bounds<N: RatedNetwork>(
@@ -49,8 +49,8 @@ fn cuts_in(heap: Global, words: Split<'_, char>) -> anyhow::Result<Vec<Cut>> {
 fn tell_case(rt: &(impl Files + Print + AllocGlobal), line: &str) -> anyhow::Result<()> {
     println!(rt; "{line}")?;
     let mut words = line.split(' ');
-    let file = words.next().context(NAMES)?;
-    let status = words.next().context(NAMES)?;
+    let file = words.next().context(CASE_FORM)?;
+    let status = words.next().context(CASE_FORM)?;
     let bytes = fs::read(rt, file)?;
     let mut table = [TableRow::default(); 64];
     // Stays in both programs that read the network of a deck: the list borrows the table, which a function could not hand out.

@@ -22,7 +22,7 @@ use sheet::network_text::NetworkText;
 use std::io::{BufRead, BufReader};
 use std::str::{FromStr, Split};
 
-const PLACES: u32 = 70;
+const PLACES: usize = 70;
 
 // Row k lies between nodes k and 7 k + 3, counted round.
 fn row(nodes: u32, k: u32, mantissa: u32, exponent: u32) -> TableRow
@@ -82,13 +82,13 @@ impl Size {
 
     // The rows of the list, but no more than a table has places.
     // Stays a loop: to collect into an `ArrayVec` may be refused.
-    fn rows(self, mantissa: u32, exponent: u32) -> ArrayVec<TableRow, 70>
+    fn rows(self, mantissa: u32, exponent: u32) -> ArrayVec<TableRow, PLACES>
         requires { mantissa ≤ 1000000 }
         ensures { result.items ≡ map (λ k. row_of (max self.nodes 1) k mantissa exponent) (range_with_len 0 (min self.branches 70)) }
     {
         let round = self.nodes.max(1);
         let mut rows = ArrayVec::new();
-        for k in 0..self.branches.min(PLACES) {
+        for k in 0..self.branches.min(PLACES as u32) {
             rows.push(row(round, k, mantissa, exponent));
         }
         rows

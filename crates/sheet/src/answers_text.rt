@@ -18,7 +18,7 @@ use std::fmt;
 #[derive(Clone, Copy)]
 pub(crate) struct AnswersText<'a, N> {
     pub(crate) door: u32,
-    pub(crate) places: &'a [Place],
+    pub(crate) places: &'a [Place; 5],
     pub(crate) study: &'a Study,
     pub(crate) network: &'a N,
 }
@@ -28,9 +28,7 @@ impl<'a, N: Network> fmt::Display for AnswersText<'a, N> {
 
     fn fmt<W: fmt::Write>(&self, f: &mut fmt::Formatter<W>) -> fmt::Result {
         // the places of calls_for: the aim, two advances and two bounds
-        let [_, first, second, low, fine] = self.places else {
-            return Ok(());
-        };
+        let [_, first, second, low, fine] = self.places;
         write_advances(f, self.door, made_in(first), made_in(second))?;
         write_rows(f, self.study, self.network)?;
         write_low(f, low_in(low))?;

@@ -20,6 +20,5 @@ returns-clause-writes g c = λ p ok.
     let two : HasWritten g.W.Write.write_str_gives c.write_advances.new.f rows c.write_rows.new.f = search rules in
     let three : HasWritten g.W.Write.write_str_gives c.write_rows.new.f low c.write_low.new.f = search rules in
     has_written_of_eq _ _ _ _ _
-    (answers_text-parts door rows places (omega arith) c.first-item.result c.second-item.result c.low-item.result c.fine-item.result c.first-item.is c.second-item.is c.low-item.is c.fine-item.is _ _ _ _
-    c.made_in.ensures c.made_in-2.ensures c.low_in.ensures c.fine_in.ensures)
+    (answers_text-parts door rows places (omega arith) _ _ _ _ _ _ _ _ c.made_in.ensures c.made_in-2.ensures c.low_in.ensures c.fine_in.ensures)
     (has_written_append _ _ _ _ _ _ one (has_written_append _ _ _ _ _ _ two (has_written_append _ _ low c.write_low.new.f fine _ three (search rules))))
