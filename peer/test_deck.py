@@ -60,6 +60,18 @@ class DescriptionTest(unittest.TestCase):
             description(Refusal(4, 12, 14)), b"DECK REFUSED 4 LAYER N PLACE 12 LINE 14\n"
         )
 
+    def test_lines_of_any_number(self) -> None:
+        # crates/refusals wants the same texts
+        for refusal, text in (
+            (Refusal(15, 0, 0), b"DECK REFUSED 15 LAYER D PLACE 0 LINE 0\n"),
+            (Refusal(19, 0, 2**32 + 7), b"DECK REFUSED 19 LAYER D PLACE 0 LINE 4294967303\n"),
+            (
+                Refusal(3, 5, 2**64 - 1),
+                b"DECK REFUSED 3 LAYER N PLACE 5 LINE 18446744073709551615\n",
+            ),
+        ):
+            self.assertEqual(description(refusal), text)
+
     def test_layers(self) -> None:
         for number, layer in ((1, "N"), (4, "N"), (5, "S"), (14, "D"), (15, "D"), (19, "D")):
             self.assertEqual(Refusal(number, 0, 0).layer, layer)

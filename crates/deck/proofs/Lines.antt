@@ -17,7 +17,6 @@ pub record Between (bytes : List ℕ) (left : Lines) (d : Draft) : Type 0 where
   pub holds : Holds d es
   pub at : left.number ≡ length es + 1
   pub reads : read_cards [] (cards bytes) ≡ read_cards es (cards left.rest.now)
-  pub room : left.number + length left.rest.now ≤ 65537
 
 module _ (bytes : List ℕ) (before left : Lines) (line : Line) (d : Draft) (now : Between bytes before d) (g : GivesLine before line left) where
   told : (o : Result Entry DeckFault) → card_after now.es (card_on (words line.bytes.now)) ≡ o → read_cards [] (cards bytes) ≡ answer now.es (cards left.rest.now) (length now.es + 1) o
@@ -31,10 +30,21 @@ module _ (bytes : List ℕ) (before left : Lines) (line : Line) (d : Draft) (now
     holds = q.1;
     at = omega (arith, now.at, g.next);
     reads = told (Ok e) p;
-    room = omega (arith, now.room, g.shorter);
   }
   taken after (Err f) p q = absurd cc
 
   -- a line that the draft takes
   pub line_ok : (r : Result (Unit {0}) DeckFault) (after : Draft) → TakesLine d line.number line.bytes.now r after → r ≡ Ok tt → Between bytes left after
   line_ok r after takes e = taken after _ refl (subst (λ t. Next now.es (card_after now.es (card_on (words line.bytes.now))) t after) e (takes now.es now.holds (g.number ∙ now.at)))
+
+-- the same, of a deck so short that its line numbers fit 32 bits
+pub record LinesFit (bytes : List ℕ) (left : Lines) (d : Draft) : Type 0 where
+  pub between : Between bytes left d
+  pub room : left.number + length left.rest.now ≤ 65537
+
+-- they still fit after a line that the draft takes
+pub lines_fit : (bytes : List ℕ) (before left : Lines) (line : Line) (d : Draft) → LinesFit bytes before d → GivesLine before line left → (r : Result (Unit {0}) DeckFault) (after : Draft) → TakesLine d line.number line.bytes.now r after → r ≡ Ok tt → LinesFit bytes left after
+lines_fit bytes before left line d now g r after takes e = record {
+  between = line_ok bytes before left line d now.between g r after takes e;
+  room = omega (arith, now.room, g.shorter);
+}

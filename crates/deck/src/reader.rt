@@ -38,9 +38,11 @@ fn read_lines(bytes: &[u8]) -> Result<(Deck, Draft), DeckRefusal>
     let mut lines = Lines::new(bytes);
     // Stays a while let: after a for over lines.by_ref() the proof no longer knows where the lines ended.
     while let Some(line) = lines.next() {
-        read_line(&mut draft, line).map_err(|fault| fault.at(line.number as u32))?;
+        read_line(&mut draft, line).map_err(|fault| fault.at_line(line.number as u32))?;
     }
-    let deck = draft.deck().map_err(|fault| fault.at(lines.number as u32))?;
+    let deck = draft
+        .deck()
+        .map_err(|fault| fault.at_line(lines.number as u32))?;
     Ok((deck, draft))
 }
 
@@ -67,7 +69,7 @@ pub fn read_deck(bytes: &[u8], table: &mut [TableRow]) -> Result<Deck, DeckRefus
     ensures refusal { refusal_on result ≡ first_no_on (deck_questions (length table.old) bytes.now) }
     ensures laws { DeckLaws bytes.now table.old result table.new }
 {
-    check_bytes(bytes, table.len()).map_err(|fault| fault.at(0))?;
+    check_bytes(bytes, table.len()).map_err(|fault| fault.at_line(0))?;
     let (deck, draft) = read_lines(bytes)?;
     draft.fill(table);
     Ok(deck)

@@ -7,6 +7,7 @@ ghost use Rattle.refusals.specs.declared.study_fault.StudyFault.TheVariants.{Net
 use crate::layer::{Layer, Refusal};
 use crate::network_fault::NetworkFault;
 use crate::study_fault::StudyFault;
+use crate::wide_refusal::WideRefusal;
 use std::{error, fmt};
 use thiserror::Error;
 
@@ -77,10 +78,17 @@ pub struct DeckRefusal {
 
 impl DeckFault {
     /// The fault with the line where it stands, counted from 1.
-    pub fn at(self, line: u32) -> DeckRefusal
+    pub fn at_line(self, line: u32) -> DeckRefusal
         ensures { result ≡ record { fault = self; line = line } }
     {
         DeckRefusal { fault: self, line }
+    }
+
+    /// The fault with its line, for a caller that counts lines as `usize`.
+    pub fn at(self, line: usize) -> WideRefusal
+        ensures { result ≡ record { fault = self; line = line } }
+    {
+        WideRefusal { fault: self, line }
     }
 }
 

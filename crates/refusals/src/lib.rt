@@ -5,3 +5,4 @@ pub mod deck_fault;
 pub mod layer;
 pub mod network_fault;
 pub mod study_fault;
+pub mod wide_refusal;
